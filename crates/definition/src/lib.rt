@@ -1,0 +1,3 @@
+// Definitions and laws alone: specs/ says what a two-level segregated fit heap is.
+
+pub fn nothing() {}
