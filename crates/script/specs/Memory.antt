@@ -1,0 +1,108 @@
+-- A memory, decoded: a number for each field and place. The first four fields are the words of a grain's header, and
+-- their place is the grain; the others are the tables'.
+--   Size    four times the size in grains, and the two flags: 1 used, 3 the sentinel; 2 stands for what can't be right
+--   Before  the block before: its grain, or none
+--   Next    the next free block; at `root k` the head of list k
+--   Prev    the previous free block; in a used block, before a payload that stands at a grain, the block's own grain
+--   Mark    for each list, 1 where it is not empty
+--   Live    for each half grain, 1 where a live payload starts
+--   Table   the regions: their number, then a first grain and an end for each
+-- A link that can't be right, outside the arena or between grains, is a number from the arena's length on, but not none.
+use Prim.Native.Nat.{ℕ, zero, suc, _+_, _*_, _≤_, _<_}
+use mathlib.Core.Path.{_≡_, refl, ap, sym, _∙_, subst}
+use mathlib.Core.List.{List, [], _∷_, _++_}
+use mathlib.Core.Logic.{_⊎_, inl, inr, ⊎-elim}
+use lib.ListN.{length}
+use Rattle.choice.specs.Choice.{ifEq, upd, upd-same, upd-other, eq-yes, eq-no, same?}
+
+abbrev pub Memory : Type 0
+Memory = ℕ → ℕ → ℕ
+
+abbrev pub Size : ℕ
+Size = 0
+
+abbrev pub Before : ℕ
+Before = 1
+
+abbrev pub Next : ℕ
+Next = 2
+
+abbrev pub Prev : ℕ
+Prev = 3
+
+abbrev pub Mark : ℕ
+Mark = 4
+
+abbrev pub Live : ℕ
+Live = 5
+
+abbrev pub Table : ℕ
+Table = 6
+
+-- what a link says where it leads nowhere; no arena has so many grains
+unfoldable pub none : ℕ
+none = 18446744073709551615
+
+-- the place of a list's head among the Next fields
+abbrev pub root : ℕ → ℕ
+root k = suc none + k
+
+-- ---- size words
+
+abbrev pub freeWord : ℕ → ℕ
+freeWord s = 4 * s
+
+abbrev pub usedWord : ℕ → ℕ
+usedWord s = 4 * s + 1
+
+abbrev pub lastWord : ℕ
+lastWord = 7
+
+-- ---- writes
+
+-- x where the fields are one, else y: it computes for fields that are known
+abbrev pub pick {ℓ} : {A : Type ℓ} → ℕ → ℕ → A → A → A
+pick zero zero x y = x
+pick zero (suc g) x y = y
+pick (suc f) zero x y = y
+pick (suc f) (suc g) x y = pick f g x y
+
+pub record Write : Type 0 where
+  pub field : ℕ
+  pub place : ℕ
+  pub value : ℕ
+
+abbrev pub put : Memory → Write → Memory
+put m w g = pick (w .field) g (upd (m g) (w .place) (w .value)) (m g)
+
+abbrev pub apply : Memory → List Write → Memory
+apply m [] = m
+apply m (w ∷ l) = apply (put m w) l
+
+infix 45 _at_≔_
+abbrev pub _at_≔_ : ℕ → ℕ → ℕ → Write
+_at_≔_ f x v = record { field = f; place = x; value = v }
+
+pub apply-append : (m : Memory) (p q : List Write) → apply m (p ++ q) ≡ apply (apply m p) q
+apply-append m [] q = refl
+apply-append m (w ∷ p) q = apply-append (put m w) p q
+
+-- ---- what stands at one place after some writes, if v stood there before
+
+abbrev pub latest : List Write → ℕ → ℕ → ℕ → ℕ
+latest [] g y v = v
+latest (w ∷ l) g y v = latest l g y (pick (w .field) g (ifEq y (w .place) (w .value) v) v)
+
+put-is : (m : Memory) (w : Write) (g y : ℕ) → put m w g y ≡ pick (w .field) g (ifEq y (w .place) (w .value) (m g y)) (m g y)
+put-is m w g y = go (w .field) g (m g)
+  where
+    go : (f h : ℕ) (n : ℕ → ℕ) → pick f h (upd n (w .place) (w .value)) n y ≡ pick f h (ifEq y (w .place) (w .value) (n y)) (n y)
+    unfolding upd
+    go zero zero n = refl
+    go zero (suc h) n = refl
+    go (suc f) zero n = refl
+    go (suc f) (suc h) n = go f h n
+
+pub apply-is : (m : Memory) (l : List Write) (g y : ℕ) → apply m l g y ≡ latest l g y (m g y)
+apply-is m [] g y = refl
+apply-is m (w ∷ l) g y = apply-is (put m w) l g y ∙ ap (latest l g y) (put-is m w g y)
