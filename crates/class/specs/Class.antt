@@ -14,7 +14,6 @@ use mathlib.Core.Path.{_≡_, ap, _∙_}
 use mathlib.Core.Logic.{⊎-elim}
 use lib.Pow.{pow-pos, pow-add}
 use Rattle.choice.specs.Choice.{le?}
-
 -- the logarithm of two, with its laws, is passed on
 unfoldable pub use Rattle.class.specs.Log.{log, logs}
 pub use Rattle.class.specs.Log.{log-top, log-is, log-lt}
@@ -42,7 +41,7 @@ pub floor-at : (f r : ℕ) → r ≤ 16 → floor (16 * f + r) ≡ (16 + r) * 2 
 floor-at f r h = ⊎-elim
     (λ (p : r ≤ 15). floor-is (16 * f + r) f r (omega arith) (omega arith))
     (λ (p : 15 < r). let e : r ≡ 16 = omega arith in
-      floor-is (16 * f + r) (f + 1) 0 (omega arith) (omega arith) ∙ rw e (omega (arith, pow-add 2 f 1)))
+    floor-is (16 * f + r) (f + 1) 0 (omega arith) (omega arith) ∙ rw e (omega (arith, pow-add 2 f 1)))
     (le? r 15)
 
 -- from one list to the next the least size grows by a sixteenth of the class's first size
@@ -140,20 +139,29 @@ module _ (s : ℕ) (h : 0 < s) where
     where
       up : ℕ
       up = (16 * s + (2 ^ log s - 1)) / 2 ^ log s
+
       at-up : floor (startOf s) ≡ up * 2 ^ log s
       at-up = start-floor
+
       least : up ≤ 16 → floor j < 16 * s
       least p =
-        let e : up ≡ 16 = omega (arith, up-bounds .0) in
-        let f : floor (startOf s) ≡ 16 * 2 ^ log s = rw e at at-up in
-        omega (arith, f, floor-lt j (startOf s) l, log-top s h)
+          let e : up ≡ 16 = omega (arith, up-bounds .0) in
+          let f : floor (startOf s) ≡ 16 * 2 ^ log s = rw e at at-up in
+          omega (arith, f, floor-lt j (startOf s) l, log-top s h)
+
       less : 16 < up → floor j < 16 * s
       less p =
-        let f : floor (startOf s - 1) ≡ (up - 1) * 2 ^ log s = start-before p in
-        let d : (up - 1 + 1) * 2 ^ log s ≡ up * 2 ^ log s = ap (λ (x : ℕ). x * 2 ^ log s) (omega arith) in
-        omega (
-          arith, f, floor-mono j (startOf s - 1) (omega arith), div-mul-le-self (16 * s + (2 ^ log s - 1)) (2 ^ log s),
-          add-mul (up - 1) 1 (2 ^ log s), d, pow-pos (log s))
+          let f : floor (startOf s - 1) ≡ (up - 1) * 2 ^ log s = start-before p in
+          let d : (up - 1 + 1) * 2 ^ log s ≡ up * 2 ^ log s = ap (λ (x : ℕ). x * 2 ^ log s) (omega arith) in
+          omega (
+            arith,
+            f,
+            floor-mono j (startOf s - 1) (omega arith),
+            div-mul-le-self (16 * s + (2 ^ log s - 1)) (2 ^ log s),
+            add-mul (up - 1) 1 (2 ^ log s),
+            d,
+            pow-pos (log s),
+          )
 
   -- it passes over less than one more sixteenth of s
   pub start-near : floor (startOf s) < 17 * s

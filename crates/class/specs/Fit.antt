@@ -33,5 +33,5 @@ fits-up s h f =
       some = pow-pos (log s);
       within = log-top s h .0;
       low = up-bounds s h .0;
-      high = up-bounds s h .1
+      high = up-bounds s h .1;
     }

@@ -25,8 +25,8 @@ logs-top zero s h l = absurd (omega arith)
 logs-top (suc k) s h l = ⊎-elim
     (λ (p : s ≤ 1). rw (le-yes s 1 0 (suc (logs k (s / 2))) p) (omega arith, omega arith))
     (λ (p : 1 < s). let t = logs-top k (s / 2) (omega arith) (omega arith) in
-      let a : suc (logs k (s / 2)) + 1 ≡ suc (logs k (s / 2) + 1) = omega arith in
-      rw (le-no s 1 0 (suc (logs k (s / 2))) (λ q. omega arith)) (omega (arith, t .0), rw a (omega (arith, t .1))))
+    let a : suc (logs k (s / 2)) + 1 ≡ suc (logs k (s / 2) + 1) = omega arith in
+    rw (le-no s 1 0 (suc (logs k (s / 2))) (λ q. omega arith)) (omega (arith, t .0), rw a (omega (arith, t .1))))
     (le? s 1)
 
 -- s is between two powers of two
@@ -39,13 +39,13 @@ pub log-is : (s j : ℕ) → 2 ^ j ≤ s → s < 2 ^ (j + 1) → log s ≡ j
 log-is s j a b =
     let t = log-top s (omega (arith, pow-pos j)) in
     let p : j ≤ log s = ⊎-elim
-      (λ (p : j ≤ log s). p)
-      (λ (q : log s < j). omega (arith, t .1, pow-mono {i = log s + 1} {j = j} (omega arith)))
-      (le? j (log s)) in
+    (λ (p : j ≤ log s). p)
+    (λ (q : log s < j). omega (arith, t .1, pow-mono {i = log s + 1} {j = j} (omega arith)))
+    (le? j (log s)) in
     let q : log s ≤ j = ⊎-elim
-      (λ (p : log s ≤ j). p)
-      (λ (q : j < log s). omega (arith, t .0, pow-mono {i = j + 1} {j = log s} (omega arith)))
-      (le? (log s) j) in
+    (λ (p : log s ≤ j). p)
+    (λ (q : j < log s). omega (arith, t .0, pow-mono {i = j + 1} {j = log s} (omega arith)))
+    (le? (log s) j) in
     omega arith
 
 -- a number of n bits has its highest bit below place n

@@ -46,7 +46,7 @@ num-puts (suc n) l i v h f =
     let e : i + 1 + n ≤ length (set l i (v % 256)) = rw length-set (omega arith) in
     let b : num n k (i + 1) ≡ v / 256 = num-puts n (set l i (v % 256)) (i + 1) (v / 256) e (omega arith) in
     let a : getD k i 0 ≡ v % 256 =
-      puts-byte n (set l i (v % 256)) (i + 1) (v / 256) i (inr (omega arith)) ∙ getD-set-same l i (v % 256) 0 (omega arith) in
+    puts-byte n (set l i (v % 256)) (i + 1) (v / 256) i (inr (omega arith)) ∙ getD-set-same l i (v % 256) 0 (omega arith) in
     omega (arith, a, b)
 
 -- a number that has no byte in common with the place written stays, whatever the two widths are
@@ -56,5 +56,5 @@ num-puts-apart zero n l i v j h = refl
 num-puts-apart (suc m) n l i v j h =
     let a : getD (puts n l i v) j 0 ≡ getD l j 0 = puts-byte n l i v j (⊎-elim (λ w. inl (omega arith)) (λ w. inr (omega arith)) h) in
     let b : num m (puts n l i v) (j + 1) ≡ num m l (j + 1) =
-      num-puts-apart m n l i v (j + 1) (⊎-elim (λ w. inl (omega arith)) (λ w. inr (omega arith)) h) in
+    num-puts-apart m n l i v (j + 1) (⊎-elim (λ w. inl (omega arith)) (λ w. inr (omega arith)) h) in
     omega (arith, a, b)
