@@ -1,0 +1,3 @@
+-- Alignments.
+pub mod Align
+pub mod Code
