@@ -24,10 +24,12 @@ floor k = (16 + k % 16) * 2 ^ (k / 16)
 
 -- the list of s grains
 unfoldable pub listOf : ℕ → ℕ
+unfolding log
 listOf s = 16 * log s + 16 * s / 2 ^ log s - 16
 
 -- where a search for s grains starts
 unfoldable pub startOf : ℕ → ℕ
+unfolding log
 startOf s = 16 * log s + (16 * s + (2 ^ log s - 1)) / 2 ^ log s - 16
 
 -- ---- least sizes

@@ -12,11 +12,13 @@ use Rattle.choice.specs.Choice.{ifLe, le-yes, le-no, le?}
 
 -- how often s can be halved before it is 1 or less, k times at most
 unfoldable pub logs : ℕ → ℕ → ℕ
+unfolding ifLe
 logs zero s = 0
 logs (suc k) s = ifLe s 1 0 (suc (logs k (s / 2)))
 
 -- the place of the highest set bit of s
 unfoldable pub log : ℕ → ℕ
+unfolding logs
 log s = logs s s
 
 logs-top : (k s : ℕ) → 0 < s → s ≤ k → (2 ^ logs k s ≤ s) × (s < 2 ^ (logs k s + 1))

@@ -1,5 +1,4 @@
 -- What a call does to any memory: read Memory, then Script.
 pub mod Memory
-pub mod First
 pub mod Script
 pub mod Locality

@@ -94,10 +94,10 @@ latest [] g y v = v
 latest (w ∷ l) g y v = latest l g y (pick (w .field) g (ifEq y (w .place) (w .value) v) v)
 
 put-is : (m : Memory) (w : Write) (g y : ℕ) → put m w g y ≡ pick (w .field) g (ifEq y (w .place) (w .value) (m g y)) (m g y)
+unfolding upd
 put-is m w g y = go (w .field) g (m g)
   where
     go : (f h : ℕ) (n : ℕ → ℕ) → pick f h (upd n (w .place) (w .value)) n y ≡ pick f h (ifEq y (w .place) (w .value) (n y)) (n y)
-    unfolding upd
     go zero zero n = refl
     go zero (suc h) n = refl
     go (suc f) zero n = refl
