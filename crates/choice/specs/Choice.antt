@@ -74,3 +74,18 @@ upd-each P f k v a b j = ⊎-elim
     (λ e. subst (λ x. P j x) (sym (upd-same f k v j e)) (subst (λ i. P i v) (sym e) a))
     (λ n. subst (λ x. P j x) (sym (upd-other f k v j n)) (b j n))
     (same? j k)
+
+-- two functions changed at the same place
+pub upd-pair {ℓ κ} : {A : Type ℓ} {B : Type κ} (P : A → B → Type 0) (f : ℕ → A) (g : ℕ → B) (k : ℕ) (v : A) (w : B)
+    → P v w → ((j : ℕ) → (j ≡ k → ⊥) → P (f j) (g j)) → (j : ℕ) → P (upd f k v j) (upd g k w j)
+upd-pair P f g k v w a b j = ⊎-elim
+    (λ e. subst (λ x. P x (upd g k w j)) (sym (upd-same f k v j e)) (subst (λ x. P v x) (sym (upd-same g k w j e)) a))
+    (λ n. subst (λ x. P x (upd g k w j)) (sym (upd-other f k v j n)) (subst (λ x. P (f j) x) (sym (upd-other g k w j n)) (b j n)))
+    (same? j k)
+
+-- the later change counts
+pub upd-twice {ℓ} : {A : Type ℓ} (f : ℕ → A) (x : ℕ) (a b : A) (y : ℕ) → upd f x b y ≡ upd (upd f x a) x b y
+upd-twice f x a b y = ⊎-elim
+    (λ e. upd-same f x b y e ∙ sym (upd-same (upd f x a) x b y e))
+    (λ n. upd-other f x b y n ∙ sym (upd-other (upd f x a) x b y n ∙ upd-other f x a y n))
+    (same? y x)

@@ -29,7 +29,6 @@ _⟨⟩_ [] r = r
 _⟨⟩_ (b ∷ l) r = l ⟨⟩ (b ∷ r)
 
 infixr 50 _⟨⟩_
-
 pub record Place : Type 0 where
   pub before : List Block
   pub behind : List Block

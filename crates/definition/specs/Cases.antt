@@ -41,7 +41,7 @@ unfolding listAfter
 rest-to-head = refl
 
 split-to-head : says 2048 (Give 0 65536 ∷ Take 48 8 ∷ Take 1008 8 ∷ Take 16 8 ∷ Take 1040 8 ∷ Take 16 8 ∷ Return 80 ∷ Return 1136 ∷ Resize 16 16 8 ∷ Take 1008 8 ∷ [])
-  ≡ 65536 ∷ 16 ∷ 80 ∷ 1104 ∷ 1136 ∷ 2192 ∷ 0 ∷ 0 ∷ 16 ∷ 48 ∷ []
+    ≡ 65536 ∷ 16 ∷ 80 ∷ 1104 ∷ 1136 ∷ 2192 ∷ 0 ∷ 0 ∷ 16 ∷ 48 ∷ []
 unfolding says
 split-to-head = refl
 
@@ -73,14 +73,14 @@ abbrev between : ℕ → List Call
 between n = Give 0 160 ∷ Take 0 8 ∷ Take 0 8 ∷ Return 16 ∷ Resize 48 n 8 ∷ []
 
 up-or-down : (says 5 (between 80) ≡ 160 ∷ 16 ∷ 48 ∷ 0 ∷ 48 ∷ []) × (says 5 (between 81) ≡ 160 ∷ 16 ∷ 48 ∷ 0 ∷ 16 ∷ [])
-  × (says 5 (between 112) ≡ 160 ∷ 16 ∷ 48 ∷ 0 ∷ 16 ∷ []) × (says 5 (between 113) ≡ 160 ∷ 16 ∷ 48 ∷ 0 ∷ 1 ∷ [])
+    × (says 5 (between 112) ≡ 160 ∷ 16 ∷ 48 ∷ 0 ∷ 16 ∷ []) × (says 5 (between 113) ≡ 160 ∷ 16 ∷ 48 ∷ 0 ∷ 1 ∷ [])
 unfolding says
 up-or-down = (refl, refl, refl, refl)
 
 -- ---- largest sizes: a take passes blocks of its own list over, a resize doesn't
 
 largest-take : says 4096 (Give 0 131072 ∷ Take 126961 16 ∷ Take 126945 32 ∷ Take 126913 64 ∷ Take 122881 4096 ∷ Take 122880 4096 ∷ Return 4096 ∷ Take 126960 16 ∷ [])
-  ≡ 131072 ∷ 1 ∷ 1 ∷ 1 ∷ 1 ∷ 4096 ∷ 0 ∷ 16 ∷ []
+    ≡ 131072 ∷ 1 ∷ 1 ∷ 1 ∷ 1 ∷ 4096 ∷ 0 ∷ 16 ∷ []
 unfolding says
 largest-take = refl
 

@@ -57,8 +57,12 @@ unfolding remove
 parts y (z ∷ l) d (inl e) = record { front = []; back = l; is = rw e refl; less = eq-yes z y _ _ (sym e) }
 parts y (z ∷ l) d (inr h) =
     let p = parts y l (d .1) h in
-    record { front = z ∷ p .front; back = p .back; is = ap (λ (a : List ℕ). z ∷ a) (p .is);
-             less = eq-no z y _ _ (λ e. d .0 (rw e h)) ∙ ap (λ (a : List ℕ). z ∷ a) (p .less) }
+    record {
+      front = z ∷ p .front;
+      back = p .back;
+      is = ap (λ (a : List ℕ). z ∷ a) (p .is);
+      less = eq-no z y _ _ (λ e. d .0 (rw e h)) ∙ ap (λ (a : List ℕ). z ∷ a) (p .less);
+    }
 
 -- ---- all lists: no block twice, in one list or in two
 
@@ -79,22 +83,22 @@ module _ (f : Lists) (o : Apiece f) where
 
   pub apiece-drop : (k y : ℕ) → Apiece (drop k y f)
   apiece-drop k y = record {
-      once = upd-each (λ j l. NoDup l) f k (remove y (f k)) (nodup-remove y (f k) (o .once k)) (λ j n. o .once j);
-      one = λ i j u a b. o .one i j u (mem-drop k y i u a) (mem-drop k y j u b)
-    }
+    once = upd-each (λ j l. NoDup l) f k (remove y (f k)) (nodup-remove y (f k) (o .once k)) (λ j n. o .once j);
+    one = λ i j u a b. o .one i j u (mem-drop k y i u a) (mem-drop k y j u b);
+  }
 
   -- a member after a push is the new one or an old one
   pub mem-push : (k x j u : ℕ) → Mem u (push k x f j) → ((u ≡ x) × (j ≡ k)) ⊎ Mem u (f j)
   mem-push k x j u = upd-each (λ j l. Mem u l → ((u ≡ x) × (j ≡ k)) ⊎ Mem u (f j)) f k (x ∷ f k)
-    (⊎-elim (λ e. inl (e, refl)) (λ m. inr m)) (λ j n m. inr m) j
+      (⊎-elim (λ e. inl (e, refl)) (λ m. inr m)) (λ j n m. inr m) j
 
   pub mem-pushed : (k x j u : ℕ) → Mem u (f j) → Mem u (push k x f j)
   mem-pushed k x j u = upd-each (λ j l. Mem u (f j) → Mem u l) f k (x ∷ f k) (λ m. inr m) (λ j n m. m) j
 
   pub apiece-push : (k x : ℕ) → ((j : ℕ) → Mem x (f j) → ⊥) → Apiece (push k x f)
   apiece-push k x new = record {
-      once = upd-each (λ j l. NoDup l) f k (x ∷ f k) (new k, o .once k) (λ j n. o .once j);
-      one = λ i j u a b. ⊎-elim
+    once = upd-each (λ j l. NoDup l) f k (x ∷ f k) (new k, o .once k) (λ j n. o .once j);
+    one = λ i j u a b. ⊎-elim
         (λ p. ⊎-elim (λ q. p .1 ∙ sym (q .1)) (λ m. absurd (new j (rw (p .0) at m))) (mem-push k x j u b))
-        (λ m. ⊎-elim (λ q. absurd (new i (rw (q .0) at m))) (λ n. o .one i j u m n) (mem-push k x j u b)) (mem-push k x i u a)
-    }
+        (λ m. ⊎-elim (λ q. absurd (new i (rw (q .0) at m))) (λ n. o .one i j u m n) (mem-push k x j u b)) (mem-push k x i u a);
+  }

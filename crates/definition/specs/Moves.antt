@@ -59,12 +59,15 @@ module _ (c : ℕ) (f : Lists) (l r : List Block) (s d : ℕ) where
         exact = record {
           apiece = apiece-drop f (e .apiece) (listOf s) x;
           there = λ k y m.
-            let g = e .there k y (mem-drop f (e .apiece) (listOf s) x k y m) in
-            (g .0, at-join y (free (g .0)) l (used s d ∷ r)
-              (put (g .0) y (λ q. dropped f (e .apiece) (listOf s) k x mx (subst (λ u. Mem u (drop (listOf s) x f k)) q m)) (at-split y (free (g .0)) l (free s ∷ r) (g .1))), g .2);
-          listed = λ y t g. back y t (i .0) (i .1 .1) (λ b. e .listed y t (at-join y (free t) l (free s ∷ r) b)) (at-split y (free t) l (used s d ∷ r) g)
+              let g = e .there k y (mem-drop f (e .apiece) (listOf s) x k y m) in (
+                g .0,
+                at-join y (free (g .0)) l (used s d ∷ r)
+                    (put (g .0) y (λ q. dropped f (e .apiece) (listOf s) k x mx (subst (λ u. Mem u (drop (listOf s) x f k)) q m)) (at-split y (free (g .0)) l (free s ∷ r) (g .1))),
+                g .2,
+              );
+          listed = λ y t g. back y t (i .0) (i .1 .1) (λ b. e .listed y t (at-join y (free t) l (free s ∷ r) b)) (at-split y (free t) l (used s d ∷ r) g);
         };
-        short = subst (Listed c) (pieces-behind l (free s ∷ r) (used s d ∷ r) (λ n. refl) 0) (o .short)
+        short = subst (Listed c) (pieces-behind l (free s ∷ r) (used s d ∷ r) (λ n. refl) 0) (o .short);
       }
     where
       on : (r : List Block) → Ordered idle r → Ordered busy r
@@ -73,12 +76,14 @@ module _ (c : ℕ) (f : Lists) (l r : List Block) (s d : ℕ) where
       on (gap ∷ r) w = absurd (w .0)
       on (used s d ∷ r) w = w
       on (last ∷ r) w = w
+
       put : (t y : ℕ) → (y ≡ total l → ⊥) → LeftAt y (free t) l ⊎ BlockAt y (free t) (total l) (free s ∷ r) → LeftAt y (free t) l ⊎ BlockAt y (free t) (total l) (used s d ∷ r)
       put t y n (inl h) = inl h
       put t y n (inr (inl h)) = absurd (n (h .0))
       put t y n (inr (inr h)) = inr (inr h)
+
       back : (y t : ℕ) → OrderedL l → 1 ≤ s → (LeftAt y (free t) l ⊎ BlockAt y (free t) (total l) (free s ∷ r) → Mem y (f (listOf t)))
-        → LeftAt y (free t) l ⊎ BlockAt y (free t) (total l) (used s d ∷ r) → Mem y (drop (listOf s) (total l) f (listOf t))
+          → LeftAt y (free t) l ⊎ BlockAt y (free t) (total l) (used s d ∷ r) → Mem y (drop (listOf s) (total l) f (listOf t))
       back y t w p g (inl h) = mem-dropped f (o .exact .apiece) (listOf s) (total l) (listOf t) y (omega (arith, left-lt y (free t) l w h)) (g (inl h))
       back y t w p g (inr (inl h)) = absurd (free-used (h .1))
       back y t w p g (inr (inr h)) = mem-dropped f (o .exact .apiece) (listOf s) (total l) (listOf t) y (omega (arith, at-low y (free t) (total l + s) r h)) (g (inr (inr h)))
@@ -94,30 +99,32 @@ module _ (c : ℕ) (f : Lists) (l r : List Block) (s d : ℕ) where
         exact = record {
           apiece = apiece-push f (e .apiece) (listOf s) x (λ j m. let g = e .there j x m in used-at l r s d (g .0) (i .0) (i .1 .1 .0) (g .1));
           there = λ k y m. ⊎-elim
-            (λ q. (s, at-join y (free s) l (free s ∷ r) (inr (inl (q .0, refl))), sym (q .1)))
-            (λ m. let g = e .there k y m in (g .0, at-join y (free (g .0)) l (free s ∷ r) (put (g .0) y (at-split y (free (g .0)) l (used s d ∷ r) (g .1))), g .2))
-            (mem-push f (e .apiece) (listOf s) x k y m);
-          listed = λ y t g. back y t (λ b. e .listed y t (at-join y (free t) l (used s d ∷ r) b)) (at-split y (free t) l (free s ∷ r) g)
+              (λ q. (s, at-join y (free s) l (free s ∷ r) (inr (inl (q .0, refl))), sym (q .1)))
+              (λ m. let g = e .there k y m in (g .0, at-join y (free (g .0)) l (free s ∷ r) (put (g .0) y (at-split y (free (g .0)) l (used s d ∷ r) (g .1))), g .2))
+              (mem-push f (e .apiece) (listOf s) x k y m);
+          listed = λ y t g. back y t (λ b. e .listed y t (at-join y (free t) l (used s d ∷ r) b)) (at-split y (free t) l (free s ∷ r) g);
         };
-        short = subst (Listed c) (pieces-behind l (used s d ∷ r) (free s ∷ r) (λ n. refl) 0) (o .short)
+        short = subst (Listed c) (pieces-behind l (used s d ∷ r) (free s ∷ r) (λ n. refl) 0) (o .short);
       }
     where
       put : (t y : ℕ) → LeftAt y (free t) l ⊎ BlockAt y (free t) (total l) (used s d ∷ r) → LeftAt y (free t) l ⊎ BlockAt y (free t) (total l) (free s ∷ r)
       put t y (inl h) = inl h
       put t y (inr (inl h)) = absurd (free-used (h .1))
       put t y (inr (inr h)) = inr (inr h)
+
       new : (y t : ℕ) → y ≡ total l → s ≡ t → Mem y (push (listOf s) (total l) f (listOf t))
       new y t p q = subst (λ t. Mem y (push (listOf s) (total l) f (listOf t))) q (rw (upd-same f (listOf s) (total l ∷ f (listOf s)) (listOf s) refl) (inl p))
+
       back : (y t : ℕ) → (LeftAt y (free t) l ⊎ BlockAt y (free t) (total l) (used s d ∷ r) → Mem y (f (listOf t)))
-        → LeftAt y (free t) l ⊎ BlockAt y (free t) (total l) (free s ∷ r) → Mem y (push (listOf s) (total l) f (listOf t))
+          → LeftAt y (free t) l ⊎ BlockAt y (free t) (total l) (free s ∷ r) → Mem y (push (listOf s) (total l) f (listOf t))
       back y t g (inl h) = mem-pushed f (o .exact .apiece) (listOf s) (total l) (listOf t) y (g (inl h))
       back y t g (inr (inl h)) = let p : free s ≡ free t = h .1 in new y t (h .0) (cc)
       back y t g (inr (inr h)) = mem-pushed f (o .exact .apiece) (listOf s) (total l) (listOf t) y (g (inr (inr h)))
 
 -- the same free blocks, with other blocks between them: a became b
 pub recast : (c : ℕ) (f : Lists) (a b r : List Block) → total a ≡ total b → (OrderedL a → OrderedL b) → (Ordered (sideL a) r → Ordered (sideL b) r)
-  → ((y t : ℕ) → LeftAt y (free t) a → LeftAt y (free t) b) → ((y t : ℕ) → LeftAt y (free t) b → LeftAt y (free t) a)
-  → (Listed c (pieces 0 (a ⟨⟩ r)) → Listed c (pieces 0 (b ⟨⟩ r))) → Sane c (a ⟨⟩ r) f → Sane c (b ⟨⟩ r) f
+    → ((y t : ℕ) → LeftAt y (free t) a → LeftAt y (free t) b) → ((y t : ℕ) → LeftAt y (free t) b → LeftAt y (free t) a)
+    → (Listed c (pieces 0 (a ⟨⟩ r)) → Listed c (pieces 0 (b ⟨⟩ r))) → Sane c (a ⟨⟩ r) f → Sane c (b ⟨⟩ r) f
 recast c f a b r e w v p q n o =
     let i = order-split a r (o .order) in
     record {
@@ -125,10 +132,10 @@ recast c f a b r e w v p q n o =
       exact = record {
         apiece = o .exact .apiece;
         there = λ k y m. let h = o .exact .there k y m in
-          (h .0, at-join y (free (h .0)) b r (⊎-elim (λ j. inl (p y (h .0) j)) (λ j. inr (rw e at j)) (at-split y (free (h .0)) a r (h .1))), h .2);
-        listed = λ y t h. o .exact .listed y t (at-join y (free t) a r (⊎-elim (λ j. inl (q y t j)) (λ j. inr (rw e j)) (at-split y (free t) b r h)))
+            (h .0, at-join y (free (h .0)) b r (⊎-elim (λ j. inl (p y (h .0) j)) (λ j. inr (rw e at j)) (at-split y (free (h .0)) a r (h .1))), h .2);
+        listed = λ y t h. o .exact .listed y t (at-join y (free t) a r (⊎-elim (λ j. inl (q y t j)) (λ j. inr (rw e j)) (at-split y (free t) b r h)));
       };
-      short = n (o .short)
+      short = n (o .short);
     }
 
 module _ (c : ℕ) (f : Lists) (l r : List Block) (s d t e : ℕ) where
@@ -167,6 +174,7 @@ replace c f l r s d v i = recast c f (used s d ∷ l) (used s v ∷ l) r refl
     to : (y u : ℕ) → LeftAt y (free u) (used s d ∷ l) → LeftAt y (free u) (used s v ∷ l)
     to y u (inl h) = absurd (free-used (h .1))
     to y u (inr h) = inr h
+
     to' : (y u : ℕ) → LeftAt y (free u) (used s v ∷ l) → LeftAt y (free u) (used s d ∷ l)
     to' y u (inl h) = absurd (free-used (h .1))
     to' y u (inr h) = inr h

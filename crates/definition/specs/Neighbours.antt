@@ -85,7 +85,7 @@ module _ (c : ℕ) (f : Lists) (l r : List Block) (s d : ℕ) (o : Sane c (l ⟨
 
 -- both, with the place forgotten
 pub swallow : (c : ℕ) (f : Lists) (l r : List Block) (s d : ℕ) → Sane c (l ⟨⟩ used s d ∷ r) f
-  → Sane c (past l ⟨⟩ used (room l + (s + room r)) 1 ∷ past r) (skip l (total (past l)) (skip r (total l + s) f))
+    → Sane c (past l ⟨⟩ used (room l + (s + room r)) 1 ∷ past r) (skip l (total (past l)) (skip r (total l + s) f))
 swallow c f l r s d o = swallow-before c (skip r (total l + s) f) l (past r) (s + room r) d (swallow-behind c f l r s d o)
 
 -- ---- return
@@ -103,5 +103,5 @@ unfolding leave
 leave-ok c f l r t e m d p q i fr o = eq-case (Ok c) m t _ _
     (λ g. replace c f l r t e d (wider t q i) o)
     (λ n. let g : m + (t - m) ≡ t = omega arith in
-      vacate c f (used m d ∷ l) r (t - m) 1 tt fr
-        (part c f l r m d (t - m) 1 e p (omega (arith, n)) i (first-half (omega (arith, n))) (rw g o)))
+    vacate c f (used m d ∷ l) r (t - m) 1 tt fr
+    (part c f l r m d (t - m) 1 e p (omega (arith, n)) i (first-half (omega (arith, n))) (rw g o)))

@@ -184,7 +184,7 @@ find-on key v [] r u = refl
 find-on key v (b ∷ l) r u = find-on key v l (b ∷ r) (u .1) ∙ eq-no (key (total l) b) v _ _ (u .0)
 
 pub find-at : (key : ℕ → Block → ℕ) (v : ℕ) (l r : List Block) (b : Block) → Unlike key v l → key (total l) b ≡ v
-  → find key v [] (l ⟨⟩ b ∷ r) ≡ record { before = l; behind = b ∷ r }
+    → find key v [] (l ⟨⟩ b ∷ r) ≡ record { before = l; behind = b ∷ r }
 unfolding find
 find-at key v l r b u e = find-on key v l (b ∷ r) u ∙ eq-yes (key (total l) b) v _ _ e
 
@@ -207,5 +207,5 @@ unlike-payload v [] w h = tt
 unlike-payload v (b ∷ l) w h = let p = payload-low (total l) b (w .1) in (omega arith, unlike-payload v l (w .2) (omega arith))
 
 pub payload-at : (l r : List Block) (s d : ℕ) → OrderedL l → 1 ≤ d
-  → find payload (2 * total l + d) [] (l ⟨⟩ used s d ∷ r) ≡ record { before = l; behind = used s d ∷ r }
+    → find payload (2 * total l + d) [] (l ⟨⟩ used s d ∷ r) ≡ record { before = l; behind = used s d ∷ r }
 payload-at l r s d w h = find-at payload (2 * total l + d) l r (used s d) (unlike-payload (2 * total l + d) l w (omega arith)) refl

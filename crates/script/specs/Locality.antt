@@ -39,6 +39,6 @@ pub record Contained {A : Type 0} (D : ℕ → ℕ → Type 0) (m d : Memory) (s
 
 pub contained : {A : Type 0} (D : ℕ → ℕ → Type 0) (m d : Memory) (s : Script A) → DiffersIn D m d → ((g y : ℕ) → Reads m s g y → D g y → ⊥) → Contained D m d s
 contained D m d s h r = record {
-    answer = same-run m d s (λ g y k. h g y (r g y k));
-    after = λ l g y n. same-after m d l g y (h g y n)
-  }
+  answer = same-run m d s (λ g y k. h g y (r g y k));
+  after = λ l g y n. same-after m d l g y (h g y n);
+}

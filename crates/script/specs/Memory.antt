@@ -106,3 +106,43 @@ put-is m w g y = go (w .field) g (m g)
 pub apply-is : (m : Memory) (l : List Write) (g y : ℕ) → apply m l g y ≡ latest l g y (m g y)
 apply-is m [] g y = refl
 apply-is m (w ∷ l) g y = apply-is (put m w) l g y ∙ ap (latest l g y) (put-is m w g y)
+
+-- ---- what some writes leave alone: a field, or a field at one place
+
+abbrev pub Untouched : ℕ → List Write → Type 0
+Untouched g [] = Unit {0}
+Untouched g (w ∷ l) = (w .field ≡ g → ⊥) × Untouched g l
+
+abbrev pub Spared : ℕ → ℕ → List Write → Type 0
+Spared g y [] = Unit {0}
+Spared g y (w ∷ l) = (w .field ≡ g → w .place ≡ y → ⊥) × Spared g y l
+
+pick-other {ℓ} : {A : Type ℓ} (f g : ℕ) (x y : A) → (f ≡ g → ⊥) → pick f g x y ≡ y
+pick-other zero zero x y n = absurd (n refl)
+pick-other zero (suc g) x y n = refl
+pick-other (suc f) zero x y n = refl
+pick-other (suc f) (suc g) x y n = pick-other f g x y (λ e. n (ap suc e))
+
+pick-same {ℓ} : {A : Type ℓ} (f g : ℕ) (x y : A) → (f ≡ g → x ≡ y) → pick f g x y ≡ y
+pick-same zero zero x y n = n refl
+pick-same zero (suc g) x y n = refl
+pick-same (suc f) zero x y n = refl
+pick-same (suc f) (suc g) x y n = pick-same f g x y (λ e. n (ap suc e))
+
+pub apply-untouched : (m : Memory) (l : List Write) (g : ℕ) → Untouched g l → apply m l g ≡ m g
+apply-untouched m [] g u = refl
+apply-untouched m (w ∷ l) g u = apply-untouched (put m w) l g (u .1) ∙ pick-other (w .field) g _ (m g) (u .0)
+
+pub apply-spared : (m : Memory) (l : List Write) (g y : ℕ) → Spared g y l → apply m l g y ≡ m g y
+apply-spared m [] g y u = refl
+apply-spared m (w ∷ l) g y u =
+    apply-spared (put m w) l g y (u .1) ∙ put-is m w g y
+    ∙ pick-same (w .field) g _ (m g y) (λ e. eq-no y (w .place) (w .value) (m g y) (λ q. u .0 e (sym q)))
+
+pub untouched-append : (g : ℕ) (p q : List Write) → Untouched g p → Untouched g q → Untouched g (p ++ q)
+untouched-append g [] q a b = b
+untouched-append g (w ∷ p) q a b = (a .0, untouched-append g p q (a .1) b)
+
+pub spared-append : (g y : ℕ) (p q : List Write) → Spared g y p → Spared g y q → Spared g y (p ++ q)
+spared-append g y [] q a b = b
+spared-append g y (w ∷ p) q a b = (a .0, spared-append g y p q (a .1) b)

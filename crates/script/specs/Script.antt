@@ -39,7 +39,6 @@ module _ {A : Type 0} where
 
 infixl 40 _>>=_
 infixl 40 _>>_
-
 abbrev pub _>>=_ : {A B : Type 0} → Script A → (A → Script B) → Script B
 _>>=_ (read f x k) g = read f x (λ v. k v >>= g)
 _>>=_ (first n x k) g = first n x (λ v. k v >>= g)

@@ -25,19 +25,21 @@ Real f = (k y : ℕ) → Mem y (f k) → y < none
 -- ---- one chain
 
 pub chain-keep : (nx pv nx' pv' : ℕ → ℕ) (n w : ℕ) (l : List ℕ)
-  → nx' n ≡ nx n → ((y : ℕ) → Mem y l → nx' y ≡ nx y) → ((y : ℕ) → Mem y l → pv' y ≡ pv y) → Chain nx pv n w l → Chain nx' pv' n w l
+    → nx' n ≡ nx n → ((y : ℕ) → Mem y l → nx' y ≡ nx y) → ((y : ℕ) → Mem y l → pv' y ≡ pv y) → Chain nx pv n w l → Chain nx' pv' n w l
 chain-keep nx pv nx' pv' n w [] e f g c = e ∙ c
 chain-keep nx pv nx' pv' n w (y ∷ l) e f g c =
     (e ∙ c .0, g y (inl refl) ∙ c .1, chain-keep nx pv nx' pv' y y l (f y (inl refl)) (λ z m. f z (inr m)) (λ z m. g z (inr m)) (c .2))
 
 -- the first of l gets another node before it: n' with the word w'
 pub chain-front : (nx pv nx' pv' : ℕ → ℕ) (n w n' w' : ℕ) (l : List ℕ) → NoDup l
-  → nx' n' ≡ nx n → ((y : ℕ) → Mem y l → nx' y ≡ nx y)
-  → ((y : ℕ) → Mem y l → y ≡ nx n → pv' y ≡ w') → ((y : ℕ) → Mem y l → (y ≡ nx n → ⊥) → pv' y ≡ pv y) → Chain nx pv n w l → Chain nx' pv' n' w' l
+    → nx' n' ≡ nx n → ((y : ℕ) → Mem y l → nx' y ≡ nx y)
+    → ((y : ℕ) → Mem y l → y ≡ nx n → pv' y ≡ w') → ((y : ℕ) → Mem y l → (y ≡ nx n → ⊥) → pv' y ≡ pv y) → Chain nx pv n w l → Chain nx' pv' n' w' l
 chain-front nx pv nx' pv' n w n' w' [] d e f a g c = e ∙ c
-chain-front nx pv nx' pv' n w n' w' (y ∷ l) d e f a g c =
-    (e ∙ c .0, a y (inl refl) (sym (c .0)),
-     chain-keep nx pv nx' pv' y y l (f y (inl refl)) (λ z m. f z (inr m)) (λ z m. g z (inr m) (λ q. d .0 (rw (q ∙ c .0) at m))) (c .2))
+chain-front nx pv nx' pv' n w n' w' (y ∷ l) d e f a g c = (
+  e ∙ c .0,
+  a y (inl refl) (sym (c .0)),
+  chain-keep nx pv nx' pv' y y l (f y (inl refl)) (λ z m. f z (inr m)) (λ z m. g z (inr m) (λ q. d .0 (rw (q ∙ c .0) at m))) (c .2),
+)
 
 -- the first of a chain, and what stands behind one of its members
 pub first-is : (nx pv : ℕ → ℕ) (n w : ℕ) (l : List ℕ) → Chain nx pv n w l → (nx n ≡ none) ⊎ Mem (nx n) l
@@ -77,17 +79,18 @@ mem-tail u y (z ∷ l) m h = inr (mem-tail u y l m h)
 -- ---- y taken out: the node before it gets its next, and the next its previous
 
 chain-unlink : (nx pv : ℕ → ℕ) (n w y : ℕ) (l m : List ℕ) → NoDup (l ++ y ∷ m) → (Mem n (l ++ y ∷ m) → ⊥) → (Mem none (l ++ y ∷ m) → ⊥)
-  → (pv' : ℕ → ℕ) → ((z : ℕ) → (z ≡ none → ⊥) → pv' z ≡ upd pv (nx y) (pv y) z)
-  → Chain nx pv n w (l ++ y ∷ m) → Chain (upd nx (lastOr n l) (nx y)) pv' n w (l ++ m)
+    → (pv' : ℕ → ℕ) → ((z : ℕ) → (z ≡ none → ⊥) → pv' z ≡ upd pv (nx y) (pv y) z)
+    → Chain nx pv n w (l ++ y ∷ m) → Chain (upd nx (lastOr n l) (nx y)) pv' n w (l ++ m)
 chain-unlink nx pv n w y [] m d nn n1 pv' q c =
     chain-front nx pv _ _ y y n w m (d .1) (upd-same _ n (nx y) n refl)
-      (λ z k. upd-other _ n (nx y) z (λ e. nn (inr (rw e at k))))
-      (λ z k e. q z (λ g. n1 (inr (rw g at k))) ∙ upd-same _ (nx y) (pv y) z e ∙ c .1)
-      (λ z k g. q z (λ g. n1 (inr (rw g at k))) ∙ upd-other _ (nx y) (pv y) z g) (c .2)
-chain-unlink nx pv n w y (z ∷ l) m d nn n1 pv' q c =
-    (upd-other _ (lastOr z l) (nx y) n (λ e. nn (rw e (last-mem z l (y ∷ m)))) ∙ c .0,
-     q z (λ g. n1 (inl (sym g))) ∙ upd-other _ (nx y) (pv y) z (λ e. ⊎-elim (λ g. n1 (inl (sym (e ∙ g)))) (λ k. d .0 (rw e k)) (next-is nx pv z z y l m (c .2))) ∙ c .1,
-     chain-unlink nx pv z z y l m (d .1) (d .0) (λ k. n1 (inr k)) pv' q (c .2))
+    (λ z k. upd-other _ n (nx y) z (λ e. nn (inr (rw e at k))))
+    (λ z k e. q z (λ g. n1 (inr (rw g at k))) ∙ upd-same _ (nx y) (pv y) z e ∙ c .1)
+    (λ z k g. q z (λ g. n1 (inr (rw g at k))) ∙ upd-other _ (nx y) (pv y) z g) (c .2)
+chain-unlink nx pv n w y (z ∷ l) m d nn n1 pv' q c = (
+  upd-other _ (lastOr z l) (nx y) n (λ e. nn (rw e (last-mem z l (y ∷ m)))) ∙ c .0,
+  q z (λ g. n1 (inl (sym g))) ∙ upd-other _ (nx y) (pv y) z (λ e. ⊎-elim (λ g. n1 (inl (sym (e ∙ g)))) (λ k. d .0 (rw e k)) (next-is nx pv z z y l m (c .2))) ∙ c .1,
+  chain-unlink nx pv z z y l m (d .1) (d .0) (λ k. n1 (inr k)) pv' q (c .2),
+)
 
 -- ---- all lists
 
@@ -152,31 +155,33 @@ module _ (nx pv : ℕ → ℕ) (f : Lists) (o : Apiece f) (real : Real f) (h : L
 
   -- y is taken out of list k; what is written for none doesn't matter
   pub links-unlink : (k y : ℕ) → Mem y (f k) → (pv' : ℕ → ℕ) → ((z : ℕ) → (z ≡ none → ⊥) → pv' z ≡ upd pv (nx y) (pv y) z)
-    → Links (upd nx (node k (pv y)) (nx y)) pv' (drop k y f)
+      → Links (upd nx (node k (pv y)) (nx y)) pv' (drop k y f)
   links-unlink k y m pv' q =
       let p = parts y (f k) (o .once k) m in
       upd-each (λ j l. Chain (upd nx (node k (pv y)) (nx y)) pv' (root j) none l) f k (remove y (f k))
-        (rw (p .less, before-is k y p) (chain-unlink nx pv (root k) none y (p .front) (p .back)
-          (rw (p .is) at (o .once k)) (rw (p .is) at (not-root k k)) (rw (p .is) at (not-none k)) pv' q (rw (p .is) at (h k))))
-        (λ j n. chain-keep nx pv _ _ (root j) none (f j)
-          (upd-other _ _ _ (root j) (λ e. ⊎-elim (λ g. n (omega (arith, e ∙ g))) (λ i. not-root j k (rw e i)) (node-mem k y m)))
-          (λ z i. upd-other _ _ _ z (λ e. ⊎-elim (λ g. not-root k j (subst (λ u. Mem u (f j)) (e ∙ g) i)) (λ a. n (o .one j k z i (rw e a))) (node-mem k y m)))
-          (λ z i. q z (λ g. not-none j (rw g at i))
-            ∙ upd-other _ _ _ z (λ e. ⊎-elim (λ g. not-none j (subst (λ u. Mem u (f j)) (e ∙ g) i)) (λ a. n (o .one j k z i (rw e a))) (next-mem k y m)))
-          (h j))
+      (rw (p .less, before-is k y p) (chain-unlink nx pv (root k) none y (p .front) (p .back)
+      (rw (p .is) at (o .once k)) (rw (p .is) at (not-root k k)) (rw (p .is) at (not-none k)) pv' q (rw (p .is) at (h k))))
+      (λ j n. chain-keep nx pv _ _ (root j) none (f j)
+      (upd-other _ _ _ (root j) (λ e. ⊎-elim (λ g. n (omega (arith, e ∙ g))) (λ i. not-root j k (rw e i)) (node-mem k y m)))
+      (λ z i. upd-other _ _ _ z (λ e. ⊎-elim (λ g. not-root k j (subst (λ u. Mem u (f j)) (e ∙ g) i)) (λ a. n (o .one j k z i (rw e a))) (node-mem k y m)))
+      (λ z i. q z (λ g. not-none j (rw g at i))
+      ∙ upd-other _ _ _ z (λ e. ⊎-elim (λ g. not-none j (subst (λ u. Mem u (f j)) (e ∙ g) i)) (λ a. n (o .one j k z i (rw e a))) (next-mem k y m)))
+      (h j))
 
   -- x is put at the head of list k
   pub links-push : (k x : ℕ) → x < none → ((j : ℕ) → Mem x (f j) → ⊥) → (pv' : ℕ → ℕ) → ((z : ℕ) → (z ≡ none → ⊥) → pv' z ≡ upd (upd pv (nx (root k)) x) x none z)
-    → Links (upd (upd nx x (nx (root k))) (root k) x) pv' (push k x f)
-  links-push k x r new pv' q = upd-each (λ j l. Chain (upd (upd nx x (nx (root k))) (root k) x) pv' (root j) none l) f k (x ∷ f k)
-      (upd-same _ (root k) x (root k) refl, q x (omega arith) ∙ upd-same _ x none x refl,
-        chain-front nx pv _ _ (root k) none x x (f k) (o .once k)
-          (upd-other _ (root k) x x (omega arith) ∙ upd-same _ x (nx (root k)) x refl)
-          (λ y m. upd-other _ (root k) x y (λ e. not-root k k (rw e at m)) ∙ upd-other _ x (nx (root k)) y (λ e. new k (rw e at m)))
-          (λ y m e. q y (λ g. not-none k (rw g at m)) ∙ upd-other _ x none y (λ g. new k (rw g at m)) ∙ upd-same _ (nx (root k)) x y e)
-          (λ y m g. q y (λ g. not-none k (rw g at m)) ∙ upd-other _ x none y (λ e. new k (rw e at m)) ∙ upd-other _ (nx (root k)) x y g) (h k))
+      → Links (upd (upd nx x (nx (root k))) (root k) x) pv' (push k x f)
+  links-push k x r new pv' q = upd-each (λ j l. Chain (upd (upd nx x (nx (root k))) (root k) x) pv' (root j) none l) f k (x ∷ f k) (
+    upd-same _ (root k) x (root k) refl,
+    q x (omega arith) ∙ upd-same _ x none x refl,
+    chain-front nx pv _ _ (root k) none x x (f k) (o .once k)
+        (upd-other _ (root k) x x (omega arith) ∙ upd-same _ x (nx (root k)) x refl)
+        (λ y m. upd-other _ (root k) x y (λ e. not-root k k (rw e at m)) ∙ upd-other _ x (nx (root k)) y (λ e. new k (rw e at m)))
+        (λ y m e. q y (λ g. not-none k (rw g at m)) ∙ upd-other _ x none y (λ g. new k (rw g at m)) ∙ upd-same _ (nx (root k)) x y e)
+        (λ y m g. q y (λ g. not-none k (rw g at m)) ∙ upd-other _ x none y (λ e. new k (rw e at m)) ∙ upd-other _ (nx (root k)) x y g) (h k),
+  )
       (λ j n. chain-keep nx pv _ _ (root j) none (f j)
-        (upd-other _ (root k) x (root j) (omega (arith, n)) ∙ upd-other _ x _ (root j) (omega arith))
-        (λ y m. upd-other _ (root k) x y (λ e. not-root k j (rw e at m)) ∙ upd-other _ x _ y (λ e. new j (rw e at m)))
-        (λ y m. q y (λ g. not-none j (rw g at m)) ∙ upd-other _ x none y (λ e. new j (rw e at m)) ∙ upd-other _ (nx (root k)) x y
-          (λ e. ⊎-elim (λ z. not-none j (subst (λ u. Mem u (f j)) (e ∙ z) m)) (λ i. n (o .one j k y m (rw e i))) (head-is k))) (h j))
+      (upd-other _ (root k) x (root j) (omega (arith, n)) ∙ upd-other _ x _ (root j) (omega arith))
+      (λ y m. upd-other _ (root k) x y (λ e. not-root k j (rw e at m)) ∙ upd-other _ x _ y (λ e. new j (rw e at m)))
+      (λ y m. q y (λ g. not-none j (rw g at m)) ∙ upd-other _ x none y (λ e. new j (rw e at m)) ∙ upd-other _ (nx (root k)) x y
+      (λ e. ⊎-elim (λ z. not-none j (subst (λ u. Mem u (f j)) (e ∙ z) m)) (λ i. n (o .one j k y m (rw e i))) (head-is k))) (h j))

@@ -53,31 +53,34 @@ head-keep sz up sz' up' x p p' last e f h = (e ∙ h .0, f (h .1))
 head-keep sz up sz' up' x p p' gap e f h = tt
 
 pub left-keep : (sz up sz' up' : ℕ → ℕ) (l : List Block) → OrderedL l
-  → ((y : ℕ) → y < total l → sz' y ≡ sz y) → ((y : ℕ) → y < total l → up' y ≡ up y) → Left sz up l → Left sz' up' l
+    → ((y : ℕ) → y < total l → sz' y ≡ sz y) → ((y : ℕ) → y < total l → up' y ≡ up y) → Left sz up l → Left sz' up' l
 left-keep sz up sz' up' [] w f g h = tt
 left-keep sz up sz' up' (b ∷ l) w f g h =
-    let lt : total l < total l + size b = omega (arith, some b (w .1)) in
-    (head-keep sz up sz' up' (total l) (linkL l) (linkL l) b (f _ lt) (λ e. g _ lt ∙ e) (h .0),
-     left-keep sz up sz' up' l (w .2) (λ y k. f y (omega arith)) (λ y k. g y (omega arith)) (h .1))
+    let lt : total l < total l + size b = omega (arith, some b (w .1)) in (
+      head-keep sz up sz' up' (total l) (linkL l) (linkL l) b (f _ lt) (λ e. g _ lt ∙ e) (h .0),
+      left-keep sz up sz' up' l (w .2) (λ y k. f y (omega arith)) (λ y k. g y (omega arith)) (h .1),
+    )
 
 pub row-keep : (sz up sz' up' : ℕ → ℕ) (x p : ℕ) (r : List Block)
-  → ((y : ℕ) → x ≤ y → sz' y ≡ sz y) → ((y : ℕ) → x ≤ y → up' y ≡ up y) → Row sz up x p r → Row sz' up' x p r
+    → ((y : ℕ) → x ≤ y → sz' y ≡ sz y) → ((y : ℕ) → x ≤ y → up' y ≡ up y) → Row sz up x p r → Row sz' up' x p r
 row-keep sz up sz' up' x p [] f g h = tt
-row-keep sz up sz' up' x p (b ∷ r) f g h =
-    (head-keep sz up sz' up' x p p b (f x (omega arith)) (λ e. g x (omega arith) ∙ e) (h .0),
-     row-keep sz up sz' up' (x + size b) (link x b) r (λ y k. f y (omega arith)) (λ y k. g y (omega arith)) (h .1))
+row-keep sz up sz' up' x p (b ∷ r) f g h = (
+  head-keep sz up sz' up' x p p b (f x (omega arith)) (λ e. g x (omega arith) ∙ e) (h .0),
+  row-keep sz up sz' up' (x + size b) (link x b) r (λ y k. f y (omega arith)) (λ y k. g y (omega arith)) (h .1),
+)
 
 -- the block at x has another before it
 pub row-relink : (sz up sz' up' : ℕ → ℕ) (x p p' : ℕ) (a : Side) (r : List Block) → Ordered a r
-  → ((y : ℕ) → x ≤ y → sz' y ≡ sz y) → ((y : ℕ) → x < y → up' y ≡ up y) → up' x ≡ p' → Row sz up x p r → Row sz' up' x p' r
+    → ((y : ℕ) → x ≤ y → sz' y ≡ sz y) → ((y : ℕ) → x < y → up' y ≡ up y) → up' x ≡ p' → Row sz up x p r → Row sz' up' x p' r
 row-relink sz up sz' up' x p p' a [] w f g e h = tt
-row-relink sz up sz' up' x p p' a (b ∷ r) w f g e h =
-    (head-keep sz up sz' up' x p p' b (f x (omega arith)) (λ _. e) (h .0),
-     row-keep sz up sz' up' (x + size b) (link x b) r (λ y k. f y (omega arith)) (λ y k. g y (omega (arith, some b (w .1)))) (h .1))
+row-relink sz up sz' up' x p p' a (b ∷ r) w f g e h = (
+  head-keep sz up sz' up' x p p' b (f x (omega arith)) (λ _. e) (h .0),
+  row-keep sz up sz' up' (x + size b) (link x b) r (λ y k. f y (omega arith)) (λ y k. g y (omega (arith, some b (w .1)))) (h .1),
+)
 
 -- the blocks a became b, and the rest stayed
 pub row-swap : (sz up sz' up' : ℕ → ℕ) (a b r : List Block) (s : Side) → Ordered s r → Row sz up 0 none (a ⟨⟩ r) → Left sz' up' b → total b ≡ total a
-  → ((y : ℕ) → total a ≤ y → sz' y ≡ sz y) → ((y : ℕ) → total a < y → up' y ≡ up y) → up' (total a) ≡ linkL b → Row sz' up' 0 none (b ⟨⟩ r)
+    → ((y : ℕ) → total a ≤ y → sz' y ≡ sz y) → ((y : ℕ) → total a < y → up' y ≡ up y) → up' (total a) ≡ linkL b → Row sz' up' 0 none (b ⟨⟩ r)
 row-swap sz up sz' up' a b r s w h k e f g u =
     row-join sz' up' b r k (rw e (row-relink sz up sz' up' (total a) (linkL a) (linkL b) s r w f g u (row-split sz up a r h .1)))
 
