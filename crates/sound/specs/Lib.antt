@@ -7,3 +7,6 @@ pub mod Checks
 pub mod Plans
 pub mod RegionPlan
 pub mod Meets
+pub mod Core
+pub mod Relists
+pub mod Leave
