@@ -10,3 +10,4 @@ pub mod Meets
 pub mod Core
 pub mod Relists
 pub mod Leave
+pub mod Seen
