@@ -10,4 +10,5 @@ pub mod Meets
 pub mod Core
 pub mod Relists
 pub mod Leave
+pub mod Swaps
 pub mod Seen
