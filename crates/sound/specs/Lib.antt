@@ -8,3 +8,4 @@ pub mod Plans
 pub mod RegionPlan
 pub mod Meets
 pub mod Seen
+pub mod SeenBeside
