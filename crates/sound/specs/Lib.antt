@@ -12,3 +12,4 @@ pub mod Relists
 pub mod Leave
 pub mod Swaps
 pub mod Seen
+pub mod SeenBeside

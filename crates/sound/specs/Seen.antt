@@ -1,39 +1,42 @@
 -- On a sound memory the checks go through: what a size word says, the facts of a free block and of an entry of its list,
 -- and the head of a list. No check refuses here, and each gives what the memory says.
-use Prim.Native.Nat.{ℕ, zero, suc, _+_, _-_, _*_, _/_, _%_, _^_, _≤_, _<_}
+use Prim.Native.Nat.{ℕ, suc, _+_, _*_, _/_, _%_, _^_, _≤_, _<_}
 use native.Mathlib.Omega.{arith}
 use mathlib.Core.Path.{_≡_, refl, ap, sym, _∙_, subst}
 use mathlib.Core.List.{List, [], _∷_}
-use mathlib.Core.Logic.{_⊎_, inl, inr, ⊎-elim}
+use mathlib.Core.Logic.{inl, ⊎-elim}
 use Rattle.choice.specs.Choice.{ifEq, eq-yes, eq-no, eq-case}
 use Rattle.class.specs.Class.{listOf, list-small}
-use Rattle.definition.specs.Blocks.{Block, free, used, last, gap, size, total, _⟨⟩_}
+use Rattle.definition.specs.Blocks.{Block, free, used, last, gap, total, _⟨⟩_}
 use Rattle.definition.specs.Calls.{Heap}
-use Rattle.definition.specs.Order.{Side, out, busy, idle, Whole, Ordered, order-split, total-zip, BlockAt, Stands, stands-at}
+use Rattle.definition.specs.Order.{idle, Ordered, order-split, total-zip, BlockAt, stands-at}
 use Rattle.definition.specs.Members.{Mem}
 use Rattle.definition.specs.Pieces.{free-listed}
 use Rattle.script.specs.Memory.{Memory, Size, Before, Next, Prev, Mark, Live, none, root, freeWord, usedWord, lastWord}
-use Rattle.script.specs.Script.{Script, read, done, stop, _>>=_, _>>_, run, no, get, unlessEq, mustEq, mustLe, mustDiffer, Gives, gives-bind, gives-get, gives-eq, gives-le, gives-differ, gives-done, reads, halts, halts-eq}
+use Rattle.script.specs.Script.{Script, read, _>>=_, _>>_, run, no, unlessEq, mustEq, mustDiffer, Gives, gives-bind, gives-get, gives-eq, gives-le, gives-differ, gives-done, reads, halts, halts-eq}
 use Rattle.sound.specs.Row.{Row, row-split}
 use Rattle.sound.specs.Chain.{Chain, Real, node, next-mem, prev-mem, node-leads, next-back}
 use Rattle.sound.specs.Strung.{Marked, mark-of}
 use Rattle.sound.specs.Sound.{Sound}
-use Rattle.sound.specs.Checks.{Word, isFree, isUsed, isLast, isBad, wordOf, mustGrain, mustLead, mustBack, asBusy, asFree, asUsed, mustBusy, mustFree, mustUsed, mustList, Entry, seePrev, seeEntry, seeHead, seeOwner}
+use Rattle.sound.specs.Checks.{Word, isFree, isUsed, isLast, wordOf, mustGrain, mustLead, mustBack, asBusy, asFree, asUsed, mustBusy, mustFree, mustUsed, seePrev, seeEntry, seeHead, seeOwner}
 
 -- ---- what the three size words say
 
+-- that of a free block
 pub word-free : (s : ℕ) → 1 ≤ s → wordOf (freeWord s) ≡ isFree s
 unfolding wordOf
 word-free s h =
     eq-no (4 * s) 7 _ _ (omega arith) ∙ eq-no (4 * s / 4) 0 _ _ (omega arith) ∙ eq-yes (4 * s % 4) 0 _ _ (omega arith)
     ∙ ap isFree (omega arith)
 
+-- that of a used one
 pub word-used : (s : ℕ) → 1 ≤ s → wordOf (usedWord s) ≡ isUsed s
 unfolding wordOf
 word-used s h =
     eq-no (4 * s + 1) 7 _ _ (omega arith) ∙ eq-no ((4 * s + 1) / 4) 0 _ _ (omega arith)
     ∙ eq-no ((4 * s + 1) % 4) 0 _ _ (omega arith) ∙ eq-yes ((4 * s + 1) % 4) 1 _ _ (omega arith) ∙ ap isUsed (omega arith)
 
+-- the sentinel's
 pub word-last : wordOf lastWord ≡ isLast
 unfolding wordOf
 word-last = refl
@@ -47,9 +50,11 @@ module _ (m : Memory) where
   pub gives-lead : (f x y : ℕ) → m f x ≡ y → Gives m (mustLead f x y) (tt {0})
   gives-lead f x y e = reads m f x _ e ∙ gives-eq m 5 y y refl
 
+  -- a grain of the arena
   pub gives-grain : (n x : ℕ) → x < n → Gives m (mustGrain n x) (tt {0})
   gives-grain n x h = gives-le m 5 (suc x) n (omega arith)
 
+  -- a block that is free, or used, where it must be
   pub gives-free : (y s : ℕ) → 1 ≤ s → m Size y ≡ freeWord s → Gives m (mustFree y) s
   gives-free y s h e = gives-word Size y (freeWord s) (isFree s) asFree e (word-free s h) (gives-done m s)
 
@@ -63,6 +68,7 @@ module _ (m : Memory) where
 
 -- ---- free blocks
 
+-- what a memory says of the free block of s grains at y, and of the block behind it
 pub record FreeFacts (n c : ℕ) (m : Memory) (y s : ℕ) : Type 0 where
   pub word : m Size y ≡ freeWord s
   pub some : 1 ≤ s
@@ -98,6 +104,7 @@ first-of : (nx pv : ℕ → ℕ) (n w y : ℕ) (l : List ℕ) → Chain nx pv n 
 first-of nx pv n w y (z ∷ l) c i = (inl (c .0), ap pv (c .0) ∙ c .1)
 
 module _ (n c : ℕ) (m : Memory) (h : Heap) (o : Sound n c m h) where
+  -- a free block of the heap is one in memory
   pub free-facts : (y s : ℕ) → BlockAt y (free s) 0 (h .blocks) → FreeFacts n c m y s
   free-facts y s b = let p = stands-at y (free s) (h .blocks) b in go (p .before) (p .behind) (p .whole) (p .place)
     where
@@ -122,6 +129,7 @@ module _ (n c : ℕ) (m : Memory) (h : Heap) (o : Sound n c m h) where
   pub member-inside : (k y : ℕ) → Mem y (h .lists k) → y < n
   member-inside k y i = let g = o .heap .exact .there k y i in omega (arith, free-facts y (g .0) (g .1) .inside)
 
+  -- so no member is none
   pub lists-real : Real (h .lists)
   lists-real k y i = omega (arith, member-inside k y i, o .small)
 
