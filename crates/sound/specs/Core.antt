@@ -78,12 +78,19 @@ module _ (sz up : ℕ → ℕ) (l r : List Block) (t : ℕ) (k : Core sz up l t 
         let up' = splitBefore up x t m in
         let e : x + t ≡ x + m + (t - m) = omega arith in
         row-join sz' up' l (used m d ∷ free (t - m) ∷ r)
-          (left-keep sz up sz' up' l w (λ y h. far y (omega arith) (omega arith)) (λ y h. far-up y (omega arith) (omega arith)) (k .left))
-          ((upd-other (upd sz x (usedWord m)) (x + m) (freeWord (t - m)) x (omega arith) ∙ upd-same sz x (usedWord m) x refl,
-            far-up x (omega arith) (omega arith) ∙ k .link),
-           ((upd-same (upd sz x (usedWord m)) (x + m) (freeWord (t - m)) (x + m) refl,
-             upd-other (upd up (x + m) x) (x + t) (x + m) (x + m) (omega arith) ∙ upd-same up (x + m) x (x + m) refl),
-           subst (λ (y : ℕ). Row sz' up' y (x + m) r) e
-             (row-relink sz up sz' up' (x + t) (k .before) (x + m) a r o
-               (λ y h. far y (omega arith) (omega arith)) (λ y h. far-up y (omega arith) (omega arith))
-               (upd-same (upd up (x + m) x) (x + t) (x + m) (x + t) refl) (k .right))))
+        (left-keep sz up sz' up' l w (λ y h. far y (omega arith) (omega arith)) (λ y h. far-up y (omega arith) (omega arith)) (k .left)) (
+          (
+            upd-other (upd sz x (usedWord m)) (x + m) (freeWord (t - m)) x (omega arith) ∙ upd-same sz x (usedWord m) x refl,
+            far-up x (omega arith) (omega arith) ∙ k .link,
+          ),
+          (
+            (
+              upd-same (upd sz x (usedWord m)) (x + m) (freeWord (t - m)) (x + m) refl,
+              upd-other (upd up (x + m) x) (x + t) (x + m) (x + m) (omega arith) ∙ upd-same up (x + m) x (x + m) refl,
+            ),
+            subst (λ (y : ℕ). Row sz' up' y (x + m) r) e
+                (row-relink sz up sz' up' (x + t) (k .before) (x + m) a r o
+                (λ y h. far y (omega arith) (omega arith)) (λ y h. far-up y (omega arith) (omega arith))
+                (upd-same (upd up (x + m) x) (x + t) (x + m) (x + t) refl) (k .right)),
+          ),
+        )

@@ -36,26 +36,26 @@ relists-none m f o r s = record { strung = s; apiece = o; real = r; quiet = λ y
 module _ (m : Memory) (f : Lists) (o : Apiece f) (r : Real f) (s : Strung m f) where
   pub relists-drop : (k y x p : ℕ) → Mem y (f k) → x ≡ m Next y → p ≡ m Prev y → Relists m f (unlinkWrites k x p) (drop k y f)
   relists-drop k y x p i ex ep = record {
-      strung = strung-unlink m f o r s k y x p i ex ep;
-      apiece = apiece-drop f o k y;
-      real = λ j u h. r j u (mem-drop f o k y j u h);
-      quiet = λ u n a b. apply-spared m (unlinkWrites k x p) Prev u
+    strung = strung-unlink m f o r s k y x p i ex ep;
+    apiece = apiece-drop f o k y;
+    real = λ j u h. r j u (mem-drop f o k y j u h);
+    quiet = λ u n a b. apply-spared m (unlinkWrites k x p) Prev u
         (unlink-spares u k x p n (λ e. ⊎-elim (λ (q : m Next y ≡ none). n (e ∙ ex ∙ q)) (λ (h : Mem (m Next y) (f k)). a k (subst (λ (v : ℕ). Mem v (f k)) (sym (e ∙ ex)) h))
-          (next-mem (m Next) (m Prev) f o r (s .links) k y i)));
-      rest = λ i a b c. unlink-untouched i a b c k x p
-    }
+        (next-mem (m Next) (m Prev) f o r (s .links) k y i)));
+    rest = λ i a b c. unlink-untouched i a b c k x p;
+  }
 
   pub relists-push : (k y h : ℕ) → y < none → NotIn f y → h ≡ m Next (root k) → Relists m f (pushWrites k y h) (push k y f)
   relists-push k y h l new eh = record {
-      strung = strung-push m f o r s k y h l new eh;
-      apiece = apiece-push f o k y new;
-      real = λ j u i. ⊎-elim (λ q. subst (λ (v : ℕ). v < none) (sym (q .0)) l) (λ i. r j u i) (mem-push f o k y j u i);
-      quiet = λ u n a b. apply-spared m (pushWrites k y h) Prev u
+    strung = strung-push m f o r s k y h l new eh;
+    apiece = apiece-push f o k y new;
+    real = λ j u i. ⊎-elim (λ q. subst (λ (v : ℕ). v < none) (sym (q .0)) l) (λ i. r j u i) (mem-push f o k y j u i);
+    quiet = λ u n a b. apply-spared m (pushWrites k y h) Prev u
         (push-spares u k y h (λ e. b k (subst (λ (v : ℕ). Mem v (push k y f k)) (sym e) here))
-          (λ e. ⊎-elim (λ (q : m Next (root k) ≡ none). n (e ∙ eh ∙ q)) (λ (i : Mem (m Next (root k)) (f k)). a k (subst (λ (v : ℕ). Mem v (f k)) (sym (e ∙ eh)) i))
-            (head-is (m Next) (m Prev) f o r (s .links) k)));
-      rest = λ i a b c. push-untouched i a b c k y h
-    }
+        (λ e. ⊎-elim (λ (q : m Next (root k) ≡ none). n (e ∙ eh ∙ q)) (λ (i : Mem (m Next (root k)) (f k)). a k (subst (λ (v : ℕ). Mem v (f k)) (sym (e ∙ eh)) i))
+        (head-is (m Next) (m Prev) f o r (s .links) k)));
+    rest = λ i a b c. push-untouched i a b c k y h;
+  }
     where
       here : Mem y (push k y f k)
       here = rw (upd-same f k (y ∷ f k) k refl) (inl refl)
@@ -63,9 +63,9 @@ module _ (m : Memory) (f : Lists) (o : Apiece f) (r : Real f) (s : Strung m f) w
 -- one after the other, where the first only takes out
 pub relists-then : (m : Memory) (f g h : Lists) (w v : List Write) → Fewer g f → Relists m f w g → Relists (apply m w) g v h → Relists m f (w ++ v) h
 relists-then m f g h w v less a b = record {
-    strung = subst (λ (d : Memory). Strung d h) (sym (apply-append m w v)) (b .strung);
-    apiece = b .apiece;
-    real = b .real;
-    quiet = λ y n i j. ap (λ (d : Memory). d Prev y) (apply-append m w v) ∙ b .quiet y n (λ k q. i k (less k y q)) j ∙ a .quiet y n i (λ k q. i k (less k y q));
-    rest = λ i p q r. untouched-append i w v (a .rest i p q r) (b .rest i p q r)
-  }
+  strung = subst (λ (d : Memory). Strung d h) (sym (apply-append m w v)) (b .strung);
+  apiece = b .apiece;
+  real = b .real;
+  quiet = λ y n i j. ap (λ (d : Memory). d Prev y) (apply-append m w v) ∙ b .quiet y n (λ k q. i k (less k y q)) j ∙ a .quiet y n i (λ k q. i k (less k y q));
+  rest = λ i p q r. untouched-append i w v (a .rest i p q r) (b .rest i p q r);
+}
