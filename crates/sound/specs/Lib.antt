@@ -11,5 +11,6 @@ pub mod Core
 pub mod Relists
 pub mod Leave
 pub mod Swaps
+pub mod Finish
 pub mod Seen
 pub mod SeenBeside
