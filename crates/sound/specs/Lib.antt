@@ -12,5 +12,7 @@ pub mod Relists
 pub mod Leave
 pub mod Swaps
 pub mod Finish
+pub mod Settle
+pub mod TakeSound
 pub mod Seen
 pub mod SeenBeside
