@@ -7,3 +7,5 @@ pub mod Checks
 pub mod Plans
 pub mod RegionPlan
 pub mod Meets
+pub mod Determined
+pub mod Fresh
