@@ -42,9 +42,9 @@ pad-spared y x d n = eq-case (Spared Prev y) (d % 2) 0 _ _ (λ e. ((λ _ q. n e 
 -- lists stay strung where no link of a member, and no mark, changes
 pub strung-keep : (m u : Memory) (f : Lists) → u Next ≡ m Next → u Mark ≡ m Mark → ((k y : ℕ) → Mem y (f k) → u Prev y ≡ m Prev y) → Strung m f → Strung u f
 strung-keep m u f a b p s = record {
-    links = λ k. chain-keep (m Next) (m Prev) (u Next) (u Prev) (root k) none (f k) (ap (λ (g : ℕ → ℕ). g (root k)) a) (λ y i. ap (λ (g : ℕ → ℕ). g y) a) (λ y i. p k y i) (s .links k);
-    marks = λ k. subst (λ (g : ℕ → ℕ). Marked (g k) (f k)) (sym b) (s .marks k)
-  }
+  links = λ k. chain-keep (m Next) (m Prev) (u Next) (u Prev) (root k) none (f k) (ap (λ (g : ℕ → ℕ). g (root k)) a) (λ y i. ap (λ (g : ℕ → ℕ). g y) a) (λ y i. p k y i) (s .links k);
+  marks = λ k. subst (λ (g : ℕ → ℕ). Marked (g k) (f k)) (sym b) (s .marks k);
+}
 
 pub record Finished (m : Memory) (f : Lists) (u : Memory) (g : Heap) (z d : ℕ) (l : List Write) : Type 0 where
   pub row : Row (u Size) (u Before) 0 none (g .blocks)
@@ -55,26 +55,29 @@ pub record Finished (m : Memory) (f : Lists) (u : Memory) (g : Heap) (z d : ℕ)
   pub table : u Table ≡ m Table
 
 pub finish-memory : (c : ℕ) (m : Memory) (f : Lists) (w : List Write) (g : Heap) (z k d : ℕ) (l : List Write) → LeavesIn m f (apply m w) g → Ok c g → BlockAt z (used k d) 0 (g .blocks) → Lives l
-  → Finished m f (apply m (w ++ (padWrites z d ++ l))) g z d l
+    → Finished m f (apply m (w ++ (padWrites z d ++ l))) g z d l
 finish-memory c m f w g z k d l s o b v = subst (λ (u : Memory). Finished m f u g z d l) (sym (apply-append m w (padWrites z d ++ l))) (record {
-    row = row-as _ _ _ _ (g .blocks) (same Size (omega arith) (omega arith)) (same Before (omega arith) (omega arith)) (s .row);
-    strung = strung-keep a u (g .lists) (same Next (omega arith) (omega arith)) (same Mark (omega arith) (omega arith))
+  row = row-as _ _ _ _ (g .blocks) (same Size (omega arith) (omega arith)) (same Before (omega arith) (omega arith)) (s .row);
+  strung = strung-keep a u (g .lists) (same Next (omega arith) (omega arith)) (same Mark (omega arith) (omega arith))
       (λ j y i. spared y (λ e q. pad-free c (g .blocks) (g .lists) z k d o b e j (subst (λ (x : ℕ). Mem x (g .lists j)) q i))) (s .strung);
-    pad = λ e. ap (λ (x : Memory). x Prev (z + d / 2 - 1)) (apply-append a (padWrites z d) l)
+  pad = λ e. ap (λ (x : Memory). x Prev (z + d / 2 - 1)) (apply-append a (padWrites z d) l)
       ∙ apply-spared (apply a (padWrites z d)) l Prev (z + d / 2 - 1) (lives-spared (z + d / 2 - 1) l v)
       ∙ ap (λ (x : List Write). apply a x Prev (z + d / 2 - 1)) (eq-yes (d % 2) 0 ((Prev at z + d / 2 - 1 ≔ z) ∷ []) [] e)
       ∙ upd-same (a Prev) (z + d / 2 - 1) z (z + d / 2 - 1) refl;
-    quiet = λ y n p q i. spared y i ∙ s .quiet y n p q;
-    live = ap (λ (x : Memory). x Live) (apply-append a (padWrites z d) l)
+  quiet = λ y n p q i. spared y i ∙ s .quiet y n p q;
+  live = ap (λ (x : Memory). x Live) (apply-append a (padWrites z d) l)
       ∙ apply-alike (apply a (padWrites z d)) m l Live (apply-untouched a (padWrites z d) Live (pad-untouched Live z d (omega arith)) ∙ s .live);
-    table = same Table (omega arith) (omega arith) ∙ s .table
-  })
+  table = same Table (omega arith) (omega arith) ∙ s .table;
+})
   where
     a : Memory
     a = apply m w
+
     u : Memory
     u = apply (apply m w) (padWrites z d ++ l)
+
     same : (i : ℕ) → (Prev ≡ i → ⊥) → (Live ≡ i → ⊥) → apply (apply m w) (padWrites z d ++ l) i ≡ apply m w i
     same i p q = apply-untouched (apply m w) (padWrites z d ++ l) i (untouched-append i (padWrites z d) l (pad-untouched i z d p) (lives-untouched i l v q))
+
     spared : (y : ℕ) → (d % 2 ≡ 0 → y ≡ z + d / 2 - 1 → ⊥) → apply (apply m w) (padWrites z d ++ l) Prev y ≡ apply m w Prev y
     spared y n = apply-spared (apply m w) (padWrites z d ++ l) Prev y (spared-append Prev y (padWrites z d) l (pad-spared y z d n) (lives-spared y l v))

@@ -16,3 +16,5 @@ pub mod Settle
 pub mod TakeSound
 pub mod Seen
 pub mod SeenBeside
+pub mod Determined
+pub mod Fresh

@@ -51,24 +51,24 @@ used-place p = cc
 
 -- a payload is placed anew
 pub settle : (n c : ℕ) (m u : Memory) (h g : Heap) → Sound n c m h → Ok c g → (x : ℕ) (old : Block) (z k d : ℕ) → Swaps (h .blocks) (g .blocks) x old z (used k d)
-  → (old ≡ gap → ⊥) → BlockAt z (used k d) 0 (g .blocks) → (BlockAt z (used k d) 0 (h .blocks) → ⊥) → total (g .blocks) ≡ total (h .blocks)
-  → (l : List Write) → Finished m (h .lists) u g z d l → Lively u (g .blocks) → Sound n c u g
+    → (old ≡ gap → ⊥) → BlockAt z (used k d) 0 (g .blocks) → (BlockAt z (used k d) 0 (h .blocks) → ⊥) → total (g .blocks) ≡ total (h .blocks)
+    → (l : List Write) → Finished m (h .lists) u g z d l → Lively u (g .blocks) → Sound n c u g
 settle n c m u h g o ok x old z k d w go here fresh t l fin live = record {
-    heap = ok;
-    whole = t ∙ o .whole;
-    small = o .small;
-    row = fin .row;
-    strung = fin .strung;
-    lively = live;
-    padded = padded-change m u (h .blocks) (g .blocks) x old z (used k d) (o .padded) w
+  heap = ok;
+  whole = t ∙ o .whole;
+  small = o .small;
+  row = fin .row;
+  strung = fin .strung;
+  lively = live;
+  padded = padded-change m u (h .blocks) (g .blocks) x old z (used k d) (o .padded) w
       (λ k' d' e v. let q = used-place e in subst (λ (j : ℕ). u Prev (z + j / 2 - 1) ≡ z) q (fin .pad (subst (λ (j : ℕ). j % 2 ≡ 0) (sym q) v)))
       (λ y s e a b v. fin .quiet (y + e / 2 - 1) (pad-some n c m h o y s e a v) (pad-free c (h .blocks) (h .lists) y s e (o .heap) a v) (pad-free c (g .blocks) (g .lists) y s e ok b v)
-        (λ i q. differ y s e a b v i q (apart z y 0 (used k d) (used s e) (g .blocks) here b)));
-    given = gaps-stay n c m u h g o ok x old z (used k d) w go used-gap t (fin .table)
-  }
+      (λ i q. differ y s e a b v i q (apart z y 0 (used k d) (used s e) (g .blocks) here b)));
+  given = gaps-stay n c m u h g o ok x old z (used k d) w go used-gap t (fin .table);
+}
   where
     differ : (y s e : ℕ) → BlockAt y (used s e) 0 (h .blocks) → BlockAt y (used s e) 0 (g .blocks) → e % 2 ≡ 0 → d % 2 ≡ 0 → y + e / 2 - 1 ≡ z + d / 2 - 1
-      → Apart z (used k d) y (used s e) → ⊥
+        → Apart z (used k d) y (used s e) → ⊥
     differ y s e a b v i q (same p r) = fresh (subst (λ (c : Block). BlockAt z c 0 (h .blocks)) (sym r) (subst (λ (j : ℕ). BlockAt j (used s e) 0 (h .blocks)) (sym p) a))
     differ y s e a b v i q (before p) =
         let f : Whole (used k d) = at-whole z (used k d) 0 out (g .blocks) (ok .order) here in
@@ -81,20 +81,20 @@ settle n c m u h g o ok x old z k d w go here fresh t l fin live = record {
 
 -- a block is resized in place, its payload stays
 pub settle-same : (n c : ℕ) (m u : Memory) (h g : Heap) → Sound n c m h → Ok c g → (x s k d : ℕ) → Swaps (h .blocks) (g .blocks) x (used s d) x (used k d)
-  → BlockAt x (used s d) 0 (h .blocks) → BlockAt x (used k d) 0 (g .blocks) → total (g .blocks) ≡ total (h .blocks) → LeavesIn m (h .lists) u g → Sound n c u g
+    → BlockAt x (used s d) 0 (h .blocks) → BlockAt x (used k d) 0 (g .blocks) → total (g .blocks) ≡ total (h .blocks) → LeavesIn m (h .lists) u g → Sound n c u g
 settle-same n c m u h g o ok x s k d w a b t lv = record {
-    heap = ok;
-    whole = t ∙ o .whole;
-    small = o .small;
-    row = lv .row;
-    strung = lv .strung;
-    lively = lively-same m u (h .blocks) (g .blocks) (o .lively) x s k d w a b (lv .live);
-    padded = padded-change m u (h .blocks) (g .blocks) x (used s d) x (used k d) (o .padded) w
+  heap = ok;
+  whole = t ∙ o .whole;
+  small = o .small;
+  row = lv .row;
+  strung = lv .strung;
+  lively = lively-same m u (h .blocks) (g .blocks) (o .lively) x s k d w a b (lv .live);
+  padded = padded-change m u (h .blocks) (g .blocks) x (used s d) x (used k d) (o .padded) w
       (λ k' d' e v. let q = used-place e in subst (λ (j : ℕ). u Prev (x + j / 2 - 1) ≡ x) q
-        (still x s k d a b (subst (λ (j : ℕ). j % 2 ≡ 0) (sym q) v) ∙ o .padded x s d a (subst (λ (j : ℕ). j % 2 ≡ 0) (sym q) v)))
+      (still x s k d a b (subst (λ (j : ℕ). j % 2 ≡ 0) (sym q) v) ∙ o .padded x s d a (subst (λ (j : ℕ). j % 2 ≡ 0) (sym q) v)))
       (λ y i e p q v. still y i i e p q v);
-    given = gaps-stay n c m u h g o ok x (used s d) x (used k d) w used-gap used-gap t (lv .table)
-  }
+  given = gaps-stay n c m u h g o ok x (used s d) x (used k d) w used-gap used-gap t (lv .table);
+}
   where
     still : (y i j e : ℕ) → BlockAt y (used i e) 0 (h .blocks) → BlockAt y (used j e) 0 (g .blocks) → e % 2 ≡ 0 → u Prev (y + e / 2 - 1) ≡ m Prev (y + e / 2 - 1)
     still y i j e p q v = lv .quiet (y + e / 2 - 1) (pad-some n c m h o y i e p v) (pad-free c (h .blocks) (h .lists) y i e (o .heap) p v) (pad-free c (g .blocks) (g .lists) y j e ok q v)
