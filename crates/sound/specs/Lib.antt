@@ -7,6 +7,7 @@ pub mod Checks
 pub mod Plans
 pub mod RegionPlan
 pub mod Meets
+pub mod Constant
 pub mod Core
 pub mod Relists
 pub mod Leave
