@@ -13,3 +13,4 @@ pub mod Leave
 pub mod Swaps
 pub mod Seen
 pub mod SeenBeside
+pub mod Skips
