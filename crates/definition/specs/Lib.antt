@@ -12,3 +12,4 @@ pub mod Moves
 pub mod Neighbours
 pub mod Placing
 pub mod Kept
+pub mod NotLive
