@@ -14,3 +14,4 @@ pub mod Swaps
 pub mod Seen
 pub mod SeenBeside
 pub mod Skips
+pub mod ReturnSound

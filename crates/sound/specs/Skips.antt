@@ -3,8 +3,8 @@
 -- is read of the second before anything is written is put right by `afterwards`.
 use Prim.Native.Nat.{ℕ, _+_, _≤_, _<_}
 use native.Mathlib.Omega.{arith}
-use mathlib.Core.Path.{_≡_, refl, ap, sym, _∙_, subst}
-use mathlib.Core.List.{List, [], _∷_, _++_}
+use mathlib.Core.Path.{_≡_, refl, sym, subst}
+use mathlib.Core.List.{List, [], _∷_}
 use Rattle.class.specs.Class.{listOf}
 use Rattle.definition.specs.Blocks.{Block, free, used, last, gap, total, _⟨⟩_, room, past}
 use Rattle.definition.specs.Lists.{Lists, skip}
@@ -12,11 +12,11 @@ use Rattle.definition.specs.Order.{out, BlockAt, at-here, Apart, same, before, 
 use Rattle.definition.specs.Members.{Mem, Apiece, mem-drop}
 use Rattle.definition.specs.Moves.{Sane, free-used}
 use Rattle.definition.specs.Neighbours.{swallow, swallow-behind}
-use Rattle.script.specs.Memory.{Memory, Next, Prev, Write, apply, latest, apply-is}
+use Rattle.script.specs.Memory.{Memory, Next, Prev, Write, apply, apply-is}
 use Rattle.sound.specs.Chain.{Real}
 use Rattle.sound.specs.Strung.{Strung}
 use Rattle.sound.specs.Sound.{Sound}
-use Rattle.sound.specs.Checks.{Entry, Beside, nobody, somebody}
+use Rattle.sound.specs.Checks.{Beside}
 use Rattle.sound.specs.Plans.{leaves, afterwards, bothLeave}
 use Rattle.sound.specs.Relists.{Relists, NotIn, Fewer, relists-none, relists-drop, relists-then}
 use Rattle.sound.specs.Seen.{lists-real}
@@ -71,6 +71,7 @@ module _ (n c : ℕ) (m : Memory) (f : Lists) (l r : List Block) (s d : ℕ) (o 
       (λ t q e. o .heap .exact .listed (total l + s) t
       (subst (λ (a : List Block). BlockAt (total l + s) (free t) 0 (l ⟨⟩ used s d ∷ a)) (sym e) (at-here (used s d ∷ l) q (free t))))
 
+  -- no list gets a member by it
   pub fewer-behind : Fewer (skip r (total l + s) f) f
   fewer-behind = fewer f (o .heap .exact .apiece) r (total l + s)
 
@@ -87,6 +88,7 @@ module _ (n c : ℕ) (m : Memory) (f : Lists) (l r : List Block) (s d : ℕ) (o 
       relists-then m f g (skip l z g) w (leaves (afterwards w z (beside m l z))) fewer-behind a
       (subst (λ (v : Beside). Relists (apply m w) g (leaves v) (skip l z g)) (sym (seen-after m w l z)) b)
 
+  -- by both, none either
   pub fewer-both : Fewer (skip l (total (past l)) (skip r (total l + s) f)) f
   fewer-both k y i = fewer-behind k y (fewer (skip r (total l + s) f) (swallowed .exact .apiece) l (total (past l)) k y i)
 
