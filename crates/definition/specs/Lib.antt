@@ -13,3 +13,4 @@ pub mod Neighbours
 pub mod Placing
 pub mod Kept
 pub mod Promises
+pub mod NotLive

@@ -19,3 +19,5 @@ pub mod Seen
 pub mod SeenBeside
 pub mod Determined
 pub mod Fresh
+pub mod Skips
+pub mod ReturnSound
