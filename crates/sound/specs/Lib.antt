@@ -21,3 +21,4 @@ pub mod Determined
 pub mod Fresh
 pub mod Skips
 pub mod ReturnSound
+pub mod ResizeSound
