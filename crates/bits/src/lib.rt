@@ -72,8 +72,8 @@ pub fn set_table_bit(t: &mut [u64], k: usize)
     requires { ⌜ k < 64 * length (now t) ⌝ }
     ensures { λ r. ⌜ now (t .exit) ≡ setTableBit (now (t .entry)) k ⌝ }
 {
-    let w = with_bit(table::fetch(t, k / BITS), k % BITS);
-    table::store(t, k / BITS, w);
+    let set = with_bit(table::fetch(t, k / BITS), k % BITS);
+    table::store(t, k / BITS, set);
 }
 
 // Bit k of the table cleared.
@@ -81,8 +81,8 @@ pub fn clear_table_bit(t: &mut [u64], k: usize)
     requires { ⌜ k < 64 * length (now t) ⌝ }
     ensures { λ r. ⌜ now (t .exit) ≡ clearTableBit (now (t .entry)) k ⌝ }
 {
-    let w = without_bit(table::fetch(t, k / BITS), k % BITS);
-    table::store(t, k / BITS, w);
+    let cleared = without_bit(table::fetch(t, k / BITS), k % BITS);
+    table::store(t, k / BITS, cleared);
 }
 
 // ---- the map of the lists
