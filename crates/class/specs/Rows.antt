@@ -1,4 +1,4 @@
--- Document 01's table of sizes, section 4, as theorems by computation: a block's size in bytes, its list, and where a
+-- rlsf's table of sizes (docs/CLASSES.md) as theorems by computation: a block's size in bytes, its list, and where a
 -- search for it starts. Here a grain is 32 bytes and there are 12 first-level classes, so 192 stands for no list.
 use Prim.Native.Nat.{ℕ, _+_, _*_, _/_}
 use mathlib.Core.Path.{_≡_, refl}

@@ -1,5 +1,5 @@
-// Runs document 01's table of sizes through `map_floor` and `map_ceil`, then every size of a block, and compares with
-// a computation by the document's own words, in bytes: the class by doubling 32, the list in it by what is left over.
+// Runs rlsf's table of sizes (docs/CLASSES.md) through `map_floor` and `map_ceil`, then every size of a block, and
+// compares with a plain computation in bytes: the class by doubling 32, the list in it by what is left over.
 // Nothing but safety is proved of this program; it is there to see the proved functions run.
 ghost use Prim.Native.Nat.{_≤_, _<_};
 
@@ -14,7 +14,7 @@ const OUT: i32 = 1;
 fn main() {
     io::write_all(OUT, b"size: its list; where a search for it starts\n");
     let right = first_rows() + last_rows();
-    io::write_all(OUT, b"rows as in the document: ");
+    io::write_all(OUT, b"rows as in the table: ");
     io::print_decimal(OUT, right);
     io::write_all(OUT, b" of 13\n");
     sweep();
@@ -43,7 +43,7 @@ fn last_rows() -> u64
         + row(131040, 191, 192)
 }
 
-// One row: writes what the functions answer, and answers 1 where the document says the same.
+// One row: writes what the functions answer, and answers 1 where the table says the same.
 fn row(size: u64, list: u64, start: u64) -> u64
     requires { ⌜ (32 ≤ size) × (size ≤ 131040) ⌝ }
     ensures { λ r. ⌜ r ≤ 1 ⌝ }
@@ -103,7 +103,7 @@ fn same(a: u64, b: u64) -> u64
     0
 }
 
-// ---- by the document's words
+// ---- the plain computation, by the words of docs/CLASSES.md
 
 // The largest of 32, 64, 128 .. that isn't above size.
 fn first_size(size: u64) -> u64
