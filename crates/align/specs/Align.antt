@@ -62,7 +62,9 @@ rounded-last x a r m h e l = ⊎-elim
 -- so there is one answer
 pub rounded-one : (x a r s : ℕ) → Rounded x a r → Rounded x a s → r ≡ s
 rounded-one x a r s h k =
-    omega (arith, rounded-first x a r s h (k .multiple) (k .low), rounded-first x a s r k (h .multiple) (h .low))
+    let p = rounded-first x a r s h (k .multiple) (omega (arith, k .low)) in
+    let q = rounded-first x a s r k (h .multiple) (omega (arith, h .low)) in
+    omega arith
 
 pub rounded-down-one : (x a r s : ℕ) → RoundedDown x a r → RoundedDown x a s → r ≡ s
 rounded-down-one x a r s h k =

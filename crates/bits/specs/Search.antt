@@ -1,12 +1,14 @@
 -- How the search for the first marked list goes from word to word of the map: what one word answers is the answer, or
 -- the search goes on with the next. Only the proofs of this crate's code use this file.
-use Prim.Native.Nat.{ℕ, _+_, _-_, _*_, _/_, _%_, _≤_, _<_}
+use Prim.Native.Nat.{ℕ, _+_, _-_, _*_, _/_, _%_, _^_, _≤_, _<_}
 use native.Mathlib.Omega.{arith}
-use mathlib.Core.Path.{_≡_, ap, sym, _∙_}
+use mathlib.Core.Path.{_≡_, refl, ap, sym, _∙_}
 use mathlib.Core.List.{List}
+use lib.Count.{trailingZeros}
 use Rattle.table.specs.Table.{entry}
 use Rattle.bits.specs.Bit.{bit}
 use Rattle.bits.specs.First.{firstSet, first-most, first-found, first-on, first-shift}
+use Rattle.bits.specs.Zeros.{none-left, some-left}
 use Rattle.bits.specs.TableBit.{table-bit-at}
 use Rattle.bits.specs.Map.{mapWords, lists, mapBit, map-bit-is}
 
@@ -55,6 +57,26 @@ passed-to t k r i n h e l f g =
     let m = first-most (bit (entry t (k / 64))) (64 - k % 64) (k % 64) in
     g ∙ ap (λ (x : ℕ). firstMarked t (64 * (x + 1))) (sym f)
     ∙ passed t (k / 64) (k % 64) (omega arith) (omega arith) (omega arith) ∙ ap (firstMarked t) q
+
+-- the same by what the code sees: what is left of k's word m, shifted down to k's place, is 0 or not
+pub left-some :
+    (t : List ℕ) (k m : ℕ) → k < lists → m ≡ entry t (k / 64) → m < 2 ^ 64 → (m / 2 ^ (k % 64) ≡ 0 → ⊥)
+    → (trailingZeros 64 (m / 2 ^ (k % 64)) < 64) × (k + trailingZeros 64 (m / 2 ^ (k % 64)) ≡ firstMarked t k)
+left-some t k m h e f ne =
+    let b = k % 64 in
+    let z = trailingZeros 64 (m / 2 ^ b) in
+    let s = some-left m b (omega arith) f ne in
+    let q : k + z ≡ 64 * (k / 64) + (b + z) = omega arith in
+    let r : b + z ≡ inWord t (k / 64) b = sym (s .1) ∙ ap (λ (x : ℕ). firstSet (bit x) (64 - b) b) e in
+    (omega (arith, s .0), q ∙ found-at t k (b + z) h r (s .0))
+
+pub left-none :
+    (t : List ℕ) (k m n : ℕ) → k < lists → m ≡ entry t (k / 64) → m / 2 ^ (k % 64) ≡ 0
+    → n ≡ firstMarked t (64 * (k / 64 + 1)) → n ≡ firstMarked t k
+left-none t k m n h e z g =
+    let b = k % 64 in
+    let r : 64 ≡ inWord t (k / 64) b = sym (none-left m b (omega arith) z) ∙ ap (λ (x : ℕ). firstSet (bit x) (64 - b) b) e in
+    passed-to t k 64 (k / 64) n h r (omega arith) refl g
 
 -- behind the last word there is none
 pub at-end : (t : List ℕ) (k : ℕ) → lists ≤ k → k ≤ lists → lists ≡ firstMarked t k

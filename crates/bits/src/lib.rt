@@ -1,7 +1,7 @@
 // Bits: of a word, of a table of words of any length, and of the map of the lists.
 // A search shifts or takes one word and counts the zeros below its lowest bit; there is no loop.
 ghost use mathlib.Core.Path.{_≡_};
-ghost use Prim.Native.Nat.{_-_, _*_, _≤_, _<_};
+ghost use Prim.Native.Nat.{_+_, _-_, _*_, _≤_, _<_};
 ghost use lib.ListN.{length};
 ghost use Rattle.choice.specs.Says.{Says};
 ghost use Rattle.bits.specs.Bit.{bit, setBit, clearBit};
@@ -72,8 +72,8 @@ pub fn set_table_bit(t: &mut [u64], k: usize)
     requires { ⌜ k < 64 * length (now t) ⌝ }
     ensures { λ r. ⌜ now (t .exit) ≡ setTableBit (now (t .entry)) k ⌝ }
 {
-    let w = with_bit(table::fetch(t, k / BITS), k % BITS);
-    table::store(t, k / BITS, w);
+    let set = with_bit(table::fetch(t, k / BITS), k % BITS);
+    table::store(t, k / BITS, set);
 }
 
 // Bit k of the table cleared.
@@ -81,8 +81,8 @@ pub fn clear_table_bit(t: &mut [u64], k: usize)
     requires { ⌜ k < 64 * length (now t) ⌝ }
     ensures { λ r. ⌜ now (t .exit) ≡ clearTableBit (now (t .entry)) k ⌝ }
 {
-    let w = without_bit(table::fetch(t, k / BITS), k % BITS);
-    table::store(t, k / BITS, w);
+    let cleared = without_bit(table::fetch(t, k / BITS), k % BITS);
+    table::store(t, k / BITS, cleared);
 }
 
 // ---- the map of the lists
@@ -123,10 +123,18 @@ pub fn first_marked(t: &[u64], k: usize) -> usize
         return LISTS;
     }
     let i = k / BITS;
-    let r = lowest_from(table::fetch(t, i), k % BITS);
-    if r < BITS {
-        return BITS * i + r;
+    let rest = table::fetch(t, i) >> (k % BITS);
+    if rest == 0 {
+        return from_behind(t, i);
     }
+    k + u64::trailing_zeros(rest) as usize
+}
+
+// The same from behind the map's word i.
+fn from_behind(t: &[u64], i: usize) -> usize
+    requires { ⌜ (mapWords ≤ length (now t)) × (i < mapWords) ⌝ }
+    ensures { λ r. ⌜ r ≡ firstSet (mapBit (now (t .entry))) (lists - 64 * (i + 1)) (64 * (i + 1)) ⌝ }
+{
     if i == 0 {
         return from_second(t);
     }

@@ -4,31 +4,42 @@ use Prim.Native.Nat.{ℕ, zero, suc, _+_, _-_, _*_, _/_, _^_, _≤_, _<_}
 use native.Mathlib.Nat.{le-refl}
 use native.Mathlib.Numerals.{add-one}
 use native.Mathlib.Omega.{arith}
-use mathlib.Core.Path.{_≡_, sym, _∙_}
+use mathlib.Core.Path.{_≡_, ap, sym, _∙_}
+use mathlib.Core.Bool.{Bool, true, false}
 use mathlib.Core.Logic.{⊎-elim}
 use lib.Pow.{pow-pos, pow-mono}
 use lib.Count.{leadingZeros, leading-top}
-use Rattle.choice.specs.Choice.{ifLe, le-yes, le-no, le?}
+use lib.Dec.{leb}
+use borrow.Author.Tests.{le-leb, lt-leb}
+use Rattle.choice.specs.Choice.{le?}
 
--- how often s can be halved before it is 1 or less, k times at most
+-- how often s can be halved before it is 1 or less, k times at most. The choice is by cases, so that only the one taken
+-- is computed: then k, which is as large as s, costs nothing
 unfoldable pub logs : ℕ → ℕ → ℕ
-unfolding ifLe
 logs zero s = 0
-logs (suc k) s = ifLe s 1 0 (suc (logs k (s / 2)))
+logs (suc k) s = elim (leb s 1) [ true ↦ 0 | false ↦ suc (logs k (s / 2)) ]
 
 -- the place of the highest set bit of s
 unfoldable pub log : ℕ → ℕ
 unfolding logs
 log s = logs s s
 
-logs-top : (k s : ℕ) → 0 < s → s ≤ k → (2 ^ logs k s ≤ s) × (s < 2 ^ (logs k s + 1))
+logs-stop : (k s : ℕ) → s ≤ 1 → logs (suc k) s ≡ 0
 unfolding logs
+logs-stop k s h = ap (λ (b : Bool). elim b [ true ↦ 0 | false ↦ suc (logs k (s / 2)) ]) (le-leb s 1 h)
+
+logs-half : (k s : ℕ) → 1 < s → logs (suc k) s ≡ suc (logs k (s / 2))
+unfolding logs
+logs-half k s h = ap (λ (b : Bool). elim b [ true ↦ 0 | false ↦ suc (logs k (s / 2)) ]) (lt-leb s 1 h)
+
+logs-top : (k s : ℕ) → 0 < s → s ≤ k → (2 ^ logs k s ≤ s) × (s < 2 ^ (logs k s + 1))
 logs-top zero s h l = absurd (omega arith)
 logs-top (suc k) s h l = ⊎-elim
-    (λ (p : s ≤ 1). rw (le-yes s 1 0 (suc (logs k (s / 2))) p) (omega arith, omega arith))
-    (λ (p : 1 < s). let t = logs-top k (s / 2) (omega arith) (omega arith) in
+    (λ (p : s ≤ 1). rw (logs-stop k s p) (omega arith, omega arith))
+    (λ (p : 1 < s).
+    let t = logs-top k (s / 2) (omega arith) (omega arith) in
     let a : suc (logs k (s / 2)) + 1 ≡ suc (logs k (s / 2) + 1) = omega arith in
-    rw (le-no s 1 0 (suc (logs k (s / 2))) (λ q. omega arith)) (omega (arith, t .0), rw a (omega (arith, t .1))))
+    rw (logs-half k s p) (omega (arith, t .0), rw a (omega (arith, t .1))))
     (le? s 1)
 
 -- s is between two powers of two

@@ -1,8 +1,8 @@
 // Words of an arena: eight bytes at an offset, lowest first, as one number, and four bytes for machines of 32 bits.
 //
 // A word is put together byte by byte, with no loop, so that the compiler sees one load or one store. This was checked
-// on the object code: `rt staticlib word`, then `objdump -d` of the archive shows for each of the four functions one
-// `mov` between memory and a register, and `ret`. See docs/DECISIONS.md for the listing.
+// on the object code and is checked again by tools/word-code: it exports the four functions from a copy of this crate,
+// builds the static library, and looks with objdump that each is one `mov` between memory and a register, and `ret`.
 ghost use mathlib.Core.Path.{_≡_};
 ghost use Prim.Native.Nat.{_+_, _≤_, _<_, _%_};
 ghost use lib.ListN.{length, set};
@@ -44,8 +44,7 @@ fn put_four(a: &mut [u8], i: usize, v: u64)
 }
 
 // The four bytes at i as one number.
-#[no_mangle]
-pub extern "C" fn get4(a: &[u8], i: usize) -> u64
+pub fn get4(a: &[u8], i: usize) -> u64
     requires { ⌜ i + 4 ≤ length (now a) ⌝ }
     ensures { λ r. ⌜ r ≡ num 4 (now (a .entry)) i ⌝ }
 {
@@ -53,8 +52,7 @@ pub extern "C" fn get4(a: &[u8], i: usize) -> u64
 }
 
 // The four lowest bytes of v, put at i.
-#[no_mangle]
-pub extern "C" fn put4(a: &mut [u8], i: usize, v: u64)
+pub fn put4(a: &mut [u8], i: usize, v: u64)
     requires { ⌜ i + 4 ≤ length (now a) ⌝ }
     ensures { λ r. ⌜ now (a .exit) ≡ puts 4 (now (a .entry)) i v ⌝ }
 {
@@ -86,8 +84,7 @@ fn put_eight(a: &mut [u8], i: usize, v: u64)
 }
 
 // The eight bytes at i as one number.
-#[no_mangle]
-pub extern "C" fn get(a: &[u8], i: usize) -> u64
+pub fn get(a: &[u8], i: usize) -> u64
     requires { ⌜ i + 8 ≤ length (now a) ⌝ }
     ensures { λ r. ⌜ r ≡ num 8 (now (a .entry)) i ⌝ }
 {
@@ -95,8 +92,7 @@ pub extern "C" fn get(a: &[u8], i: usize) -> u64
 }
 
 // v, put into the eight bytes at i.
-#[no_mangle]
-pub extern "C" fn put(a: &mut [u8], i: usize, v: u64)
+pub fn put(a: &mut [u8], i: usize, v: u64)
     requires { ⌜ i + 8 ≤ length (now a) ⌝ }
     ensures { λ r. ⌜ now (a .exit) ≡ puts 8 (now (a .entry)) i v ⌝ }
 {

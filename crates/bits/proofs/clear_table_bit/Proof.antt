@@ -21,8 +21,8 @@ returns : tie.Need-returns
 unfolding clearTableBit
 returns c =
     let d = c .before .before in
-    let w = d .before .before in
-    d .store .ensures ∙ rw (w .without-bit .ensures, w .before .fetch .ensures)
+    let e = d .before .before in
+    d .store .ensures ∙ rw (e .without-bit .ensures, e .before .fetch .ensures)
 
 pub clear-table-bit-spec : {M : Type 1} → statement M
 clear-table-bit-spec =

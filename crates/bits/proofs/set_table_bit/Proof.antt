@@ -21,8 +21,8 @@ returns : tie.Need-returns
 unfolding setTableBit
 returns c =
     let d = c .before .before in
-    let w = d .before .before in
-    d .store .ensures ∙ rw (w .with-bit .ensures, w .before .fetch .ensures)
+    let e = d .before .before in
+    d .store .ensures ∙ rw (e .with-bit .ensures, e .before .fetch .ensures)
 
 pub set-table-bit-spec : {M : Type 1} → statement M
 set-table-bit-spec =
