@@ -10,3 +10,5 @@ pub mod Members
 pub mod Pieces
 pub mod Moves
 pub mod Neighbours
+pub mod Gaps
+pub mod Regions
