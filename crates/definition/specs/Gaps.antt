@@ -38,6 +38,15 @@ bare-gaps (suc n) (used s d ∷ r) h = absurd (omega arith)
 bare-gaps (suc n) (last ∷ r) h = absurd (omega arith)
 bare-gaps (suc n) (gap ∷ r) h = ap (λ (t : List Block). gap ∷ t) (bare-gaps n r (omega arith))
 
+pub gaps-bare : (n : ℕ) (r : List Block) → n ≤ bare (gaps n r)
+gaps-bare zero r = omega arith
+gaps-bare (suc n) r = omega (arith, gaps-bare n r)
+
+pub gaps-without : (n : ℕ) (r : List Block) → without n (gaps n r) ≡ r
+gaps-without zero r = refl
+gaps-without (suc n) r = gaps-without n r
+
+-- what stands before them
 pub gaps-order : (n : ℕ) (l : List Block) → OrderedL (gaps n l) → OrderedL l
 gaps-order zero l w = w
 gaps-order (suc n) l w = gaps-order n l (w .2)

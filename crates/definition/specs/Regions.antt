@@ -11,7 +11,7 @@ use Rattle.definition.specs.Blocks.{Block, free, used, last, gap, size, 
 use Rattle.definition.specs.Lists.{Lists, push}
 use Rattle.definition.specs.Calls.{Heap, Refusal, Answer, refused, granted, Laid, lay, insertAt, insert, appendAt, append, noRegion}
 use Rattle.definition.specs.Order.{Side, out, busy, idle, side, sideL, Fits, first-half, used-fits, Ordered, OrderedL, order-split, total-zip, BlockAt, LeftAt}
-use Rattle.definition.specs.Gaps.{total-gaps, gaps-add, gaps-zip, bare-gaps, gaps-order, gaps-free, free-gaps, gap-free, gap-last, Spot, find-spot, bare-spot, find-parts}
+use Rattle.definition.specs.Gaps.{total-gaps, gaps-add, gaps-zip, bare-gaps, gaps-bare, gaps-without, gaps-order, gaps-free, free-gaps, gap-free, gap-last, Spot, find-spot, bare-spot, find-parts}
 use Rattle.definition.specs.Pieces.{pieces, Listed}
 use Rattle.definition.specs.Moves.{Sane, Ok, recast, vacate, free-used, free-last, free-gap}
 
@@ -174,3 +174,60 @@ module _ (c : ℕ) (h : Heap) (big : 1 ≤ c) (o : Ok c h) where
 
     pub append-total : append c h g n ≡ granted v k → total (k .blocks) ≡ total (h .blocks)
     append-total e = subst (Kept c h) e (append-keeps g n) .1
+
+-- ---- where a region is granted
+
+-- the answer for n grains, laid as w before r
+abbrev pub laidOut : ℕ → Laid → List Block → Answer
+laidOut n w r = granted (n - w .over) (record { blocks = w .left ⟨⟩ gaps (w .over) r; lists = w .lists })
+
+insert-there : (c : ℕ) (h : Heap) (n : ℕ) (l r : List Block) → 2 ≤ n → insertAt c h n l (gaps n r) ≡ laidOut n (lay c n (h .lists) l n) r
+unfolding insertAt
+insert-there c h n l r k =
+    le-no n 1 _ _ (omega arith) ∙ le-yes n (bare (gaps n r)) _ _ (gaps-bare n r)
+    ∙ ap (λ (t : List Block). laidOut n (lay c n (h .lists) l n) t) (gaps-without n r)
+
+insert-nowhere : (c : ℕ) (h : Heap) (n : ℕ) (l r : List Block) → (2 ≤ n → n ≤ bare r → ⊥) → insertAt c h n l r ≡ refused noRegion
+unfolding insertAt
+insert-nowhere c h n l r k = le-case (λ (a : Answer). a ≡ refused noRegion) n 1 _ _ (λ _. refl)
+    (λ p. le-no n (bare r) _ _ (λ q. k (omega arith) q))
+
+module _ (c : ℕ) (h : Heap) (g n : ℕ) (o : Ordered out (h .blocks)) where
+  -- granted at a spot, refused where there is none
+  pub insert-spot : 2 ≤ n → (p : Spot g n (h .blocks)) → insert c h g n ≡ laidOut n (lay c n (h .lists) (p .before) n) (p .rest)
+  unfolding insert
+  insert-spot k p = rw (find-spot g n (h .blocks) (omega arith) o p) (insert-there c h n (p .before) (p .rest) k)
+
+  pub insert-none : (2 ≤ n → Spot g n (h .blocks) → ⊥) → insert c h g n ≡ refused noRegion
+  unfolding insert
+  insert-none k = let p = find offset g [] (h .blocks) in
+      insert-nowhere c h n (p .before) (p .behind) (λ a b. k a (bare-spot g n (h .blocks) (omega arith) o b))
+
+  -- behind another region only
+  pub append-spot : 2 ≤ n → (p : Spot g n (h .blocks)) (l : List Block) → p .before ≡ last ∷ l
+      → append c h g n ≡ laidOut n (lay c n (h .lists) (p .before) n) (p .rest)
+  unfolding append appendAt
+  append-spot k p l e = rw (find-spot g n (h .blocks) (omega arith) o p, e) (insert-there c h n (last ∷ l) (p .rest) k)
+
+  pub append-alone : 1 ≤ n → (p : Spot g n (h .blocks)) → ((l : List Block) → p .before ≡ last ∷ l → ⊥) → append c h g n ≡ refused noRegion
+  unfolding append appendAt
+  append-alone k p e = rw (find-spot g n (h .blocks) k o p) (go (p .before) e)
+    where
+      go : (l : List Block) → ((t : List Block) → l ≡ last ∷ t → ⊥) → appendAt c h n l (gaps n (p .rest)) ≡ refused noRegion
+      go [] e = refl
+      go (free s ∷ l) e = refl
+      go (used s d ∷ l) e = refl
+      go (last ∷ l) e = absurd (e l refl)
+      go (gap ∷ l) e = refl
+
+  pub append-none : (2 ≤ n → Spot g n (h .blocks) → ⊥) → append c h g n ≡ refused noRegion
+  unfolding append appendAt
+  append-none k = let p = find offset g [] (h .blocks) in
+      go (p .before) (p .behind) (λ a b. k a (bare-spot g n (h .blocks) (omega arith) o b))
+    where
+      go : (l r : List Block) → (2 ≤ n → n ≤ bare r → ⊥) → appendAt c h n l r ≡ refused noRegion
+      go [] r e = refl
+      go (free s ∷ l) r e = refl
+      go (used s d ∷ l) r e = refl
+      go (last ∷ l) r e = insert-nowhere c h n (last ∷ l) r e
+      go (gap ∷ l) r e = refl
