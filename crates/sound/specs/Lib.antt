@@ -7,3 +7,4 @@ pub mod Checks
 pub mod Plans
 pub mod RegionPlan
 pub mod Meets
+pub mod Laying
