@@ -164,3 +164,54 @@ module _ (l r : List Block) (k : ℕ) (p : 2 ≤ k) where
       start-out : (k : ℕ) → 1 ≤ k → Ordered (sideL l) (gaps k r) → sideL l ≡ out
       start-out zero h o = absurd (omega arith)
       start-out (suc k) h o = gap-out (sideL l) (o .0)
+
+module _ (n c : ℕ) (m : Memory) (f : Lists) (l r : List Block) (k : ℕ) (p : 2 ≤ k) (q : k ≤ 2 ^ c) (o : Founded n c m (l ⟨⟩ gaps k r) f) where
+  -- a gap stands where the piece will begin
+  gap-there : BlockAt (total l) gap 0 (l ⟨⟩ gaps k r)
+  gap-there = at-join (total l) gap l (gaps k r) (inr (gaps-at k (total l) (total l) r (omega arith) (omega arith)))
+
+  new-there : (j : ℕ) → Mem (total l) (f j) → ⊥
+  new-there j i =
+      let t = free-there n c m (l ⟨⟩ gaps k r) f o j (total l) i in
+      free-gap (one-block (total l) gap (free (t .0)) (l ⟨⟩ gaps k r) (o .heap .order) gap-there (t .1))
+
+  -- the word before a payload is not written
+  pad-spared : (x s d : ℕ) → BlockAt x (used s d) 0 (l ⟨⟩ gaps k r) → d % 2 ≡ 0
+      → Spared Prev (x + d / 2 - 1) (pushWrites (listOf (k - 1)) (total l) (m Next (root (listOf (k - 1)))))
+  pad-spared x s d b e =
+      let xs = l ⟨⟩ gaps k r in
+      let i = at-whole x (used s d) 0 out xs (o .heap .order) b in
+      let lo : x ≤ x + d / 2 - 1 = omega (arith, i .1 .some) in
+      let hi : x + d / 2 - 1 < x + s = omega (arith, i .1 .some, i .1 .within) in
+      push-spares (x + d / 2 - 1) (listOf (k - 1)) (total l) (m Next (root (listOf (k - 1))))
+      (outside x (total l) (x + d / 2 - 1) (used s d) gap xs b gap-there gap-used (omega arith) lo hi)
+      (⊎-elim
+      (λ (a : m Next (root (listOf (k - 1))) ≡ none). omega (arith, o .whole, o .small, at-high x (used s d) 0 xs b))
+      (λ (a : Mem (m Next (root (listOf (k - 1)))) (f (listOf (k - 1)))).
+      let t = free-there n c m xs f o (listOf (k - 1)) (m Next (root (listOf (k - 1)))) a in
+      outside x (m Next (root (listOf (k - 1)))) (x + d / 2 - 1) (used s d) (free (t .0)) xs b (t .1) free-used (t .2) lo hi)
+      (head-is (m Next) (m Prev) f (o .heap .exact .apiece) (real n c m xs f o) (o .strung .links) (listOf (k - 1))))
+
+  -- a piece laid on such a memory leaves such a memory
+  pub piece-founded : Founded n c (apply m (pieceWrites (total l) k (m Next (root (listOf (k - 1)))))) (l ⟨⟩ free (k - 1) ∷ last ∷ r) (push (listOf (k - 1)) (total l) f)
+  piece-founded =
+      let x = total l in
+      let j = listOf (k - 1) in
+      let d = headed m x (k - 1) in
+      let w = pushWrites j x (m Next (root j)) in
+      let z = apply-untouched d w Size (push-untouched Size (λ e. omega arith) (λ e. omega arith) (λ e. omega arith) j x (m Next (root j))) in
+      let b = apply-untouched d w Before (push-untouched Before (λ e. omega arith) (λ e. omega arith) (λ e. omega arith) j x (m Next (root j))) in
+      let v = apply-untouched d w Live (push-untouched Live (λ e. omega arith) (λ e. omega arith) (λ e. omega arith) j x (m Next (root j))) in
+      record {
+        heap = piece-ok c f l r k p q (o .heap);
+        whole = omega (arith, o .whole, total-zip l (gaps k r), total-zip l (free (k - 1) ∷ last ∷ r), total-gaps k r);
+        small = o .small;
+        row = rw (z, b) (row-piece l r k p m (o .heap .order) (o .row));
+        strung = strung-push d f (o .heap .exact .apiece) (real n c m (l ⟨⟩ gaps k r) f o) (record { links = o .strung .links; marks = o .strung .marks })
+            j x (m Next (root j)) (omega (arith, o .whole, o .small, total-zip l (gaps k r), total-gaps k r)) new-there refl;
+        lively = record {
+          set = λ y s d h. rw v (o .lively .set y s d (used-old l r k p y s d h));
+          real = λ u e. let t = o .lively .real u (rw v at e) in (t .0, t .1, t .2, used-still l r k p (t .0) (t .1) (t .2) (t .3), t .4);
+        };
+        padded = λ y s e h g. let i = used-old l r k p y s e h in apply-spared d w Prev (y + e / 2 - 1) (pad-spared y s e i g) ∙ o .padded y s e i g;
+      }
