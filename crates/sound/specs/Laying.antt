@@ -215,3 +215,53 @@ module _ (n c : ℕ) (m : Memory) (f : Lists) (l r : List Block) (k : ℕ) (p : 
         };
         padded = λ y s e h g. let i = used-old l r k p y s e h in apply-spared d w Prev (y + e / 2 - 1) (pad-spared y s e i g) ∙ o .padded y s e i g;
       }
+
+-- ---- all pieces
+
+-- what holds in both cases holds of two choices with one test
+le-pair : {A B : Type 0} (P : A → B → Type 0) (a b : ℕ) (x y : A) (u v : B) → (a ≤ b → P x u) → (b < a → P y v) → P (ifLe a b x y) (ifLe a b u v)
+le-pair P a b x y u v f g = ⊎-elim
+    (λ (e : a ≤ b). rw (le-yes a b x y e, le-yes a b u v e) (f e))
+    (λ (e : b < a). let n : a ≤ b → ⊥ = (λ q. omega arith) in rw (le-no a b x y n, le-no a b u v n) (g e))
+    (le? a b)
+
+-- a script that lays as the definition does, and leaves the table alone
+pub record Lays (n c : ℕ) (m : Memory) (r : List Block) (s : Script Layout) (d : Laid) : Type 0 where
+  pub writes : List Write
+  pub gives : Gives m s (record { writes = writes; over = d .over })
+  pub founded : Founded n c (apply m writes) (d .left ⟨⟩ gaps (d .over) r) (d .lists)
+  pub table : Untouched Table writes
+
+table-spared : (x k h : ℕ) → Untouched Table (pieceWrites x k h)
+table-spared x k h = ((λ e. omega arith), ((λ e. omega arith), ((λ e. omega arith), ((λ e. omega arith),
+    push-untouched Table (λ e. omega arith) (λ e. omega arith) (λ e. omega arith) (listOf (k - 1)) x h))))
+
+-- one piece, if the others are laid so
+lays-one : (n c i : ℕ) (m : Memory) (w : List Write) (f : Lists) (l r : List Block) (x k rest : ℕ) (d : Laid) → 2 ≤ k → k ≤ 2 ^ c → x ≡ total l
+    → Founded n c (apply m w) (l ⟨⟩ gaps k (gaps rest r)) f → Untouched Table w
+    → ((v : List Write) → Founded n c (apply m v) (l ⟨⟩ free (k - 1) ∷ last ∷ gaps rest r) (push (listOf (k - 1)) (total l) f) → Untouched Table v
+    → Lays n c m r (layScript n c i v (x + k) rest) d)
+    → Lays n c m r (over w (seeHead n (listOf (k - 1))) >>= (λ h. layScript n c i (w ++ pieceWrites x k h) (x + k) rest)) d
+lays-one n c i m w f l r x k rest d p q e o u others =
+    let j = listOf (k - 1) in
+    let v = pieceWrites x k (apply m w Next (root j)) in
+    let t = others (w ++ v) (rw (apply-append m w v, e) (piece-founded n c (apply m w) f l (gaps rest r) k p q o)) (untouched-append Table w v u (table-spared x k (apply m w Next (root j)))) in
+    record {
+      writes = t .writes;
+      gives = goes m (over w (seeHead n j)) (λ h. layScript n c i (w ++ pieceWrites x k h) (x + k) rest)
+          (over-run m w (seeHead n j) 3 (few-head n j) ∙ head-seen n c (apply m w) _ f o j) ∙ t .gives;
+      founded = t .founded;
+      table = t .table;
+    }
+
+pub lays : (n c i : ℕ) (m : Memory) (w : List Write) (f : Lists) (l r : List Block) (x len : ℕ) → 1 ≤ c → x ≡ total l
+    → Founded n c (apply m w) (l ⟨⟩ gaps len r) f → Untouched Table w → Lays n c m r (layScript n c i w x len) (lay c i f l len)
+unfolding layScript lay
+lays n c zero m w f l r x len big e o u = record { writes = w; gives = gives-done m _; founded = o; table = u }
+lays n c (suc i) m w f l r x len big e o u = le-pair (Lays n c m r) len 1 _ _ _ _
+    (λ _. record { writes = w; gives = gives-done m _; founded = o; table = u })
+    (λ a. let k = min len (2 ^ c) in
+    let g : len ≡ k + (len - k) = omega arith in
+    lays-one n c i m w f l r x k (len - k) _ (omega (arith, two-grains c big)) (omega arith) e
+    (rw (gaps-add k (len - k) r) at (subst (λ (t : ℕ). Founded n c (apply m w) (l ⟨⟩ gaps t r) f) g o)) u
+    (λ v b y. lays n c i m v _ (last ∷ free (k - 1) ∷ l) r (x + k) (len - k) big (omega (arith, two-grains c big)) b y))
