@@ -123,9 +123,10 @@ lay-over c (suc i) f l n big h = le-case (λ (w : Laid). w .over ≤ 1) n 1 _ _ 
     (λ k. lay-over c i _ _ (n - min n (2 ^ c)) big (omega (arith, two-grains c big)))
 
 -- and two grains or more are laid
-pub lay-some : (c i : ℕ) (f : Lists) (l : List Block) (n : ℕ) → 1 ≤ c → 2 ≤ n → lay c (suc i) f l n .over + 2 ≤ n
+pub lay-some : (c i : ℕ) (f : Lists) (l : List Block) (n : ℕ) → 1 ≤ c → 1 ≤ i → 2 ≤ n → lay c i f l n .over + 2 ≤ n
 unfolding lay
-lay-some c i f l n big h = le-case (λ (w : Laid). w .over + 2 ≤ n) n 1 _ _ (λ k. absurd (omega arith))
+lay-some c zero f l n big p h = absurd (omega arith)
+lay-some c (suc i) f l n big p h = le-case (λ (w : Laid). w .over + 2 ≤ n) n 1 _ _ (λ k. absurd (omega arith))
     (λ k. lay-keeps c (λ w. w .over + 2 ≤ n) (λ w _ o. omega arith) i (another c (record { left = l; over = n; lists = f })) (omega (arith, two-grains c big)))
 
 -- ---- the calls

@@ -233,8 +233,19 @@ pub record Lays (n c : ℕ) (m : Memory) (r : List Block) (s : Script Layout) (d
   pub table : Untouched Table writes
 
 table-spared : (x k h : ℕ) → Untouched Table (pieceWrites x k h)
-table-spared x k h = ((λ e. omega arith), ((λ e. omega arith), ((λ e. omega arith), ((λ e. omega arith),
-    push-untouched Table (λ e. omega arith) (λ e. omega arith) (λ e. omega arith) (listOf (k - 1)) x h))))
+table-spared x k h = (
+  (λ e. omega arith),
+  (
+    (λ e. omega arith),
+    (
+      (λ e. omega arith),
+      (
+        (λ e. omega arith),
+        push-untouched Table (λ e. omega arith) (λ e. omega arith) (λ e. omega arith) (listOf (k - 1)) x h,
+      ),
+    ),
+  ),
+)
 
 -- one piece, if the others are laid so
 lays-one : (n c i : ℕ) (m : Memory) (w : List Write) (f : Lists) (l r : List Block) (x k rest : ℕ) (d : Laid) → 2 ≤ k → k ≤ 2 ^ c → x ≡ total l

@@ -8,3 +8,5 @@ pub mod Plans
 pub mod RegionPlan
 pub mod Meets
 pub mod Laying
+pub mod RegionTable
+pub mod RegionSound

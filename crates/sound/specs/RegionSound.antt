@@ -1,0 +1,116 @@
+-- Giving a region does what the definition says: on a sound memory it is refused with 4 exactly where the definition
+-- refuses, and else what is written stands for the heap after the call. Nothing is refused with 5.
+use Prim.Native.Nat.{ℕ, zero, suc, _+_, _-_, _*_, _^_, _≤_, _<_}
+use native.Mathlib.Omega.{arith}
+use mathlib.Core.Path.{_≡_, refl, ap, sym, _∙_, subst}
+use mathlib.Core.List.{List, [], _∷_, _++_}
+use mathlib.Core.Logic.{_⊎_, inl, inr, ⊎-elim}
+use Rattle.choice.specs.Choice.{ifEq, ifLe, eq-no, le?, upd-same, upd-other}
+use Rattle.definition.specs.Blocks.{Block, free, used, last, gap, size, total, _⟨⟩_, gaps}
+use Rattle.definition.specs.Lists.{Lists}
+use Rattle.definition.specs.Calls.{Heap, noRegion, Answer, refused, granted, Laid, lay, insert, append}
+use Rattle.definition.specs.Order.{Side, out, sideL, Ordered, OrderedL, order-split, total-zip, BlockAt, LeftAt, at-split, at-join, at-low, left-lt}
+use Rattle.definition.specs.Gaps.{Spot, gaps-spot, spot-gap, spot-inside, total-gaps, gaps-at, gaps-behind, gaps-cases, gap-last}
+use Rattle.definition.specs.Regions.{lay-total, lay-gap, lay-old, lay-some, laidOut, insert-spot, insert-none, append-spot, append-alone, append-none}
+use Rattle.script.specs.Memory.{Memory, Size, Before, Next, Prev, Mark, Live, Table, none, Write, _at_≔_, apply, apply-append, apply-untouched}
+use Rattle.script.specs.Script.{Script, Gives, Result, ok, no, run, done, stop, reads, goes, halts, gives-eq, gives-le, gives-done, halts-le, unlessLe, mustEq, mustLe, get, _>>=_, _>>_}
+use Rattle.sound.specs.Sound.{Lively, Padded, InTable, Given, Sound}
+use Rattle.sound.specs.Plans.{Plan}
+use Rattle.sound.specs.RegionPlan.{Looked, seeRegions, Layout, layScript, regionScript}
+use Rattle.sound.specs.Meets.{Meets, Grants}
+use Rattle.sound.specs.Laying.{Founded, one-block, Lays, lays}
+use Rattle.sound.specs.RegionTable.{firstOf, endOf, Overlap, Passed, look, Longer, Filled, given-more}
+
+-- ---- the gaps that are left
+
+gaps-shift : (x k z j y : ℕ) (r : List Block) → x + k ≡ z + j → z ≤ y → BlockAt y gap x (gaps k r) → BlockAt y gap z (gaps j r)
+gaps-shift x k z j y r e h i = ⊎-elim
+    (λ (a : (x ≤ y) × (y < x + k) × (gap ≡ gap)). gaps-at j y z r h (omega (arith, a .1)))
+    (λ (a : BlockAt y gap (x + k) r). gaps-behind j y z gap r (rw e at a))
+    (gaps-cases k y x gap r i)
+
+-- a region of len grains laid at its spot
+module _ (c : ℕ) (big : 1 ≤ c) (f : Lists) (g len : ℕ) (xs : List Block) (p : Spot g len xs) (two : 2 ≤ len) (o : Ordered out xs) where
+  -- how it is laid, and where it ends
+  abbrev laying : Laid
+  laying = lay c len f (p .before) len
+
+  end : g + (len - laying .over) ≡ total (laying .left)
+  end = omega (arith, lay-total c big len f (p .before) len, p .place, lay-some c len f (p .before) len big (omega arith) two)
+
+  over-end : total (laying .left) + laying .over ≡ g + len
+  over-end = omega (arith, lay-total c big len f (p .before) len, p .place)
+
+  filled : Filled xs (laying .left ⟨⟩ gaps (laying .over) (p .rest)) g (g + (len - laying .over))
+  filled = record {
+    same = omega (
+      arith,
+      over-end,
+      p .place,
+      ap total (p .whole),
+      total-zip (p .before) (gaps len (p .rest)),
+      total-gaps len (p .rest),
+      total-zip (laying .left) (gaps (laying .over) (p .rest)),
+      total-gaps (laying .over) (p .rest),
+    );
+    some = omega (arith, lay-some c len f (p .before) len big (omega arith) two);
+    inside = omega (arith, spot-inside g len xs p);
+    still = λ y h k. at-join y gap (laying .left) (gaps (laying .over) (p .rest)) (still y k (at-split y gap (p .before) (gaps len (p .rest)) (subst (λ (t : List Block). BlockAt y gap 0 t) (p .whole) h)));
+    was = λ y h. rw (p .whole) (at-join y gap (p .before) (gaps len (p .rest)) (was y (at-split y gap (laying .left) (gaps (laying .over) (p .rest)) h)));
+    gone = λ y h a b. gone y a b (at-split y gap (laying .left) (gaps (laying .over) (p .rest)) h);
+  }
+    where
+      still : (y : ℕ) → (y < g) ⊎ (g + (len - laying .over) ≤ y) → LeftAt y gap (p .before) ⊎ BlockAt y gap (total (p .before)) (gaps len (p .rest))
+          → LeftAt y gap (laying .left) ⊎ BlockAt y gap (total (laying .left)) (gaps (laying .over) (p .rest))
+      still y k (inl h) = inl (lay-old c big len f (p .before) len y gap h)
+      still y k (inr h) =
+          let b = at-low y gap (total (p .before)) (gaps len (p .rest)) h in
+          let z : total (laying .left) ≤ y = ⊎-elim (λ (a : y < g). absurd (omega (arith, p .place))) (λ (a : g + (len - laying .over) ≤ y). omega (arith, end)) k in
+          inr (gaps-shift (total (p .before)) len (total (laying .left)) (laying .over) y (p .rest) (omega (arith, over-end, p .place)) z h)
+
+      was : (y : ℕ) → LeftAt y gap (laying .left) ⊎ BlockAt y gap (total (laying .left)) (gaps (laying .over) (p .rest))
+          → LeftAt y gap (p .before) ⊎ BlockAt y gap (total (p .before)) (gaps len (p .rest))
+      was y (inl h) = inl (lay-gap c big len f (p .before) len y h)
+      was y (inr h) =
+          let b = at-low y gap (total (laying .left)) (gaps (laying .over) (p .rest)) h in
+          inr (gaps-shift (total (laying .left)) (laying .over) (total (p .before)) len y (p .rest) (omega (arith, over-end, p .place)) (omega (arith, end, p .place)) h)
+
+      gone : (y : ℕ) → g ≤ y → y < g + (len - laying .over) → LeftAt y gap (laying .left) ⊎ BlockAt y gap (total (laying .left)) (gaps (laying .over) (p .rest)) → ⊥
+      gone y a b (inl h) =
+          let w = order-split (p .before) (gaps len (p .rest)) (subst (Ordered out) (p .whole) o) .0 in
+          omega (arith, p .place, left-lt y gap (p .before) w (lay-gap c big len f (p .before) len y h))
+      gone y a b (inr h) = omega (arith, end, at-low y gap (total (laying .left)) (gaps (laying .over) (p .rest)) h)
+
+-- ---- the table's three words
+
+abbrev entryWrites : ℕ → ℕ → ℕ → List Write
+entryWrites r g e = (Table at 2 * r + 1 ≔ g) ∷ (Table at 2 * r + 2 ≔ e) ∷ (Table at 0 ≔ suc r) ∷ []
+
+entered : (m q : Memory) (g e : ℕ) → q Table ≡ m Table → Longer m (apply q (entryWrites (m Table 0) g e)) g e
+entered m q g e h =
+    let r = m Table 0 in
+    record {
+      count = upd-same _ 0 (suc r) 0 refl;
+      old = λ j k. (
+        upd-other _ 0 (suc r) (2 * j + 1) (omega arith) ∙ upd-other _ (2 * r + 2) e (2 * j + 1) (omega arith) ∙ upd-other (q Table) (2 * r + 1) g (2 * j + 1) (omega arith) ∙ ap (λ (t : ℕ → ℕ). t (2 * j + 1)) h,
+        upd-other _ 0 (suc r) (2 * j + 2) (omega arith) ∙ upd-other _ (2 * r + 2) e (2 * j + 2) (omega arith) ∙ upd-other (q Table) (2 * r + 1) g (2 * j + 2) (omega arith) ∙ ap (λ (t : ℕ → ℕ). t (2 * j + 2)) h,
+      );
+      new = (
+        upd-other _ 0 (suc r) (2 * r + 1) (omega arith) ∙ upd-other _ (2 * r + 2) e (2 * r + 1) (omega arith) ∙ upd-same (q Table) (2 * r + 1) g (2 * r + 1) refl,
+        upd-other _ 0 (suc r) (2 * r + 2) (omega arith) ∙ upd-same _ (2 * r + 2) e (2 * r + 2) refl,
+      );
+    }
+
+-- with its entry the region is sound
+founded-sound : (n c : ℕ) (q : Memory) (r g e : ℕ) (zs : List Block) (f : Lists) → Founded n c q zs f → Given (apply q (entryWrites r g e)) zs
+    → Sound n c (apply q (entryWrites r g e)) (record { blocks = zs; lists = f })
+founded-sound n c q r g e zs f o v = record {
+  heap = o .heap;
+  whole = o .whole;
+  small = o .small;
+  row = o .row;
+  strung = record { links = o .strung .links; marks = o .strung .marks };
+  lively = record { set = o .lively .set; real = o .lively .real };
+  padded = o .padded;
+  given = v;
+}
