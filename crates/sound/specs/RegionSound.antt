@@ -114,3 +114,101 @@ founded-sound n c q r g e zs f o v = record {
   padded = o .padded;
   given = v;
 }
+
+-- ---- the script
+
+abbrev nothing-seen : Looked
+nothing-seen = record { meets = 0; wrong = 0 }
+
+-- the plan for a region laid as w, which becomes region r
+abbrev planned : ℕ → ℕ → ℕ → Layout → Plan
+planned r g len w = record { answer = len - w .over; moved = 0; writes = w .writes ++ entryWrites r g (g + (len - w .over)) }
+
+-- what follows when the table was looked through
+abbrev afterLook : ℕ → ℕ → ℕ → ℕ → ℕ → ℕ → Looked → Script Plan
+afterLook behind n c g len r l = unlessLe 4 behind (l .meets) >> (mustEq (l .wrong) 0 >> (layScript n c len [] g len >>= (λ w. done (planned r g len w))))
+
+module _ (most behind n c g len : ℕ) (m : Memory) (room : m Table 0 < most) where
+  abbrev script : Script Plan
+  script = regionScript most behind n c g len
+
+  -- the table has room
+  enters : run m script ≡ run m (unlessLe 4 2 len >> (unlessLe 4 (g + len) n >> (mustLe (m Table 0) most
+      >> (seeRegions n g len (m Table 0) 0 nothing-seen >>= afterLook behind n c g len (m Table 0)))))
+  unfolding regionScript
+  enters = reads m Table 0 _ refl
+      ∙ goes m (ifEq (m Table 0) most (stop 6) (done (tt {0}))) _ (ap (run m) (eq-no (m Table 0) most _ _ (λ e. omega arith)) ∙ gives-done m (tt {0}))
+
+  too-short : len < 2 → run m script ≡ no 4
+  too-short h = enters ∙ halts m (unlessLe 4 2 len) _ (halts-le m 4 2 len h)
+
+  too-far : 2 ≤ len → n < g + len → run m script ≡ no 4
+  too-far h k = enters ∙ goes m (unlessLe 4 2 len) _ (gives-le m 4 2 len h) ∙ halts m (unlessLe 4 (g + len) n) _ (halts-le m 4 (g + len) n k)
+
+  looks : 2 ≤ len → g + len ≤ n → run m script ≡ run m (seeRegions n g len (m Table 0) 0 nothing-seen >>= afterLook behind n c g len (m Table 0))
+  looks h k = enters ∙ goes m (unlessLe 4 2 len) _ (gives-le m 4 2 len h) ∙ goes m (unlessLe 4 (g + len) n) _ (gives-le m 4 (g + len) n k)
+      ∙ goes m (mustLe (m Table 0) most) _ (gives-le m 5 (m Table 0) most (omega arith))
+
+  module _ (h : Heap) (b : Sound n c m h) where
+    -- refused where there is no spot, else all regions lie apart
+    abbrev Judged : Type 0
+    Judged = ((run m script ≡ no 4) × (2 ≤ len → Spot g len (h .blocks) → ⊥))
+        ⊎ ((2 ≤ len) × (g + len ≤ n) × Passed n g len m (m Table 0) 0 nothing-seen × Spot g len (h .blocks))
+
+    apart-spot : 2 ≤ len → g + len ≤ n → Passed n g len m (m Table 0) 0 nothing-seen → Spot g len (h .blocks)
+    apart-spot two near p = gaps-spot g len (h .blocks) (omega arith) (b .heap .order) (λ y u v. ⊎-elim
+        (λ (k : BlockAt y gap 0 (h .blocks)). k)
+        (λ (k : InTable m y). absurd (⊎-elim
+        (λ (a : endOf m (k .0) ≤ g). omega (arith, k .3))
+        (λ (a : g + len ≤ firstOf m (k .0)). omega (arith, k .2))
+        (p .clear (k .0) (omega arith) (omega (arith, k .1)))))
+        (b .given .either y (omega (arith, b .whole))))
+
+    judged : Judged
+    judged = ⊎-elim
+        (λ (two : 2 ≤ len). ⊎-elim
+        (λ (near : g + len ≤ n). ⊎-elim
+        (λ (k : (run m (seeRegions n g len (m Table 0) 0 nothing-seen) ≡ no 4) × Overlap m g len).
+        inl (
+          looks two near ∙ halts m (seeRegions n g len (m Table 0) 0 nothing-seen) _ (k .0),
+          λ _ p. b .given .never (k .1 .grain) (spot-gap g len (h .blocks) p (k .1 .grain) (k .1 .low) (k .1 .high)) (k .1 .inside),
+        ))
+        (λ (p : Passed n g len m (m Table 0) 0 nothing-seen). inr (two, near, p, apart-spot two near p))
+        (look n g len m (omega arith) (λ j u. let s = b .given .sane j u in (s .0, omega (arith, s .1, b .whole))) (m Table 0) 0 nothing-seen (omega arith)))
+        (λ (far : n < g + len). inl (too-far two far, λ _ p. omega (arith, spot-inside g len (h .blocks) p, b .whole)))
+        (le? (g + len) n))
+        (λ (short : len < 2). inl (too-short short, λ k _. omega arith)) (le? 2 len)
+
+    module _ (two : 2 ≤ len) (near : g + len ≤ n) (p : Passed n g len m (m Table 0) 0 nothing-seen) (s : Spot g len (h .blocks)) where
+      passes : run m script ≡ run m (afterLook behind n c g len (m Table 0) (p .looked))
+      passes = looks two near ∙ goes m (seeRegions n g len (m Table 0) 0 nothing-seen) _ (p .gives)
+
+      spot-founded : Founded n c m (s .before ⟨⟩ gaps len (s .rest)) (h .lists)
+      spot-founded = subst (λ (xs : List Block). Founded n c m xs (h .lists)) (s .whole)
+          (record { heap = b .heap; whole = b .whole; small = b .small; row = b .row; strung = b .strung; lively = b .lively; padded = b .padded })
+
+      -- granted as the definition says
+      grants : 1 ≤ c → behind ≤ p .looked .meets → Meets n c m script (laidOut len (lay c len (h .lists) (s .before) len) (s .rest))
+      grants big k =
+          let d = lay c len (h .lists) (s .before) len in
+          let t = lays n c len m [] (h .lists) (s .before) (s .rest) g len big (sym (s .place)) spot-founded tt in
+          let e = g + (len - d .over) in
+          record {
+            plan = planned (m Table 0) g len (record { writes = t .writes; over = d .over });
+            gives = passes ∙ goes m (unlessLe 4 behind (p .looked .meets)) _ (gives-le m 4 behind (p .looked .meets) k)
+                ∙ goes m (mustEq (p .looked .wrong) 0) _ (gives-eq m 5 (p .looked .wrong) 0 (p .right))
+                ∙ goes m (layScript n c len [] g len) _ (t .gives) ∙ gives-done m _;
+            answer = refl;
+            sound = rw (apply-append m (t .writes) (entryWrites (m Table 0) g e))
+                (founded-sound n c (apply m (t .writes)) (m Table 0) g e _ (d .lists) (t .founded)
+                (given-more m _ (h .blocks) _ g e (b .given) (entered m (apply m (t .writes)) g e (apply-untouched m (t .writes) Table (t .table)))
+                (filled c big (h .lists) g len (h .blocks) s two (b .heap .order))));
+          }
+
+-- a region is given as the definition says
+pub region-meets : (most n c g len : ℕ) (m : Memory) (h : Heap) → Sound n c m h → 1 ≤ c → m Table 0 < most → Meets n c m (regionScript most 0 n c g len) (insert c h g len)
+region-meets most n c g len m h b big room = go (judged most 0 n c g len m room h b)
+  where
+    go : Judged most 0 n c g len m room h b → Meets n c m (regionScript most 0 n c g len) (insert c h g len)
+    go (inl k) = rw (insert-none c h g len (b .heap .order) (k .1)) (k .0)
+    go (inr k) = rw (insert-spot c h g len (b .heap .order) (k .0) (k .3)) (grants most 0 n c g len m room h b (k .0) (k .1) (k .2) (k .3) big (omega arith))
