@@ -9,9 +9,9 @@ use Rattle.choice.specs.Choice.{ifEq, ifLe, eq-no, le?, upd-same, upd-other}
 use Rattle.definition.specs.Blocks.{Block, free, used, last, gap, size, total, _⟨⟩_, gaps}
 use Rattle.definition.specs.Lists.{Lists}
 use Rattle.definition.specs.Calls.{Heap, noRegion, Answer, refused, granted, Laid, lay, insert, append}
-use Rattle.definition.specs.Order.{Side, out, sideL, Ordered, OrderedL, order-split, total-zip, BlockAt, LeftAt, at-split, at-join, at-low, left-lt}
+use Rattle.definition.specs.Order.{Side, out, busy, idle, sideL, at-here, Ordered, OrderedL, order-split, total-zip, BlockAt, LeftAt, at-split, at-join, at-low, left-lt}
 use Rattle.definition.specs.Gaps.{Spot, gaps-spot, spot-gap, spot-inside, total-gaps, gaps-at, gaps-behind, gaps-cases, gap-last}
-use Rattle.definition.specs.Regions.{lay-total, lay-gap, lay-old, lay-some, laidOut, insert-spot, insert-none, append-spot, append-alone, append-none}
+use Rattle.definition.specs.Regions.{lay-total, lay-gap, lay-old, lay-some, laidOut, gap-out, insert-spot, insert-none, append-spot, append-alone, append-none}
 use Rattle.script.specs.Memory.{Memory, Size, Before, Next, Prev, Mark, Live, Table, none, Write, _at_≔_, apply, apply-append, apply-untouched}
 use Rattle.script.specs.Script.{Script, Gives, Result, ok, no, run, done, stop, reads, goes, halts, gives-eq, gives-le, gives-done, halts-le, unlessLe, mustEq, mustLe, get, _>>=_, _>>_}
 use Rattle.sound.specs.Sound.{Lively, Padded, InTable, Given, Sound}
@@ -212,3 +212,63 @@ region-meets most n c g len m h b big room = go (judged most 0 n c g len m room 
     go : Judged most 0 n c g len m room h b → Meets n c m (regionScript most 0 n c g len) (insert c h g len)
     go (inl k) = rw (insert-none c h g len (b .heap .order) (k .1)) (k .0)
     go (inr k) = rw (insert-spot c h g len (b .heap .order) (k .0) (k .3)) (grants most 0 n c g len m room h b (k .0) (k .1) (k .2) (k .3) big (omega arith))
+
+-- ---- behind another region
+
+module _ (n c g len : ℕ) (m : Memory) (h : Heap) (b : Sound n c m h) (p : Passed n g len m (m Table 0) 0 nothing-seen) (s : Spot g len (h .blocks)) (two : 2 ≤ len) where
+  -- behind a sentinel a region ended
+  ended : (l : List Block) → s .before ≡ last ∷ l → p .looked .meets ≡ 1
+  ended l e =
+      let x : g ≡ total l + 1 = sym (s .place) ∙ ap total e in
+      let w : h .blocks ≡ last ∷ l ⟨⟩ gaps len (s .rest) = s .whole ∙ ap (λ (t : List Block). t ⟨⟩ gaps len (s .rest)) e in
+      let a : BlockAt (total l) last 0 (h .blocks) = rw w (at-here l (gaps len (s .rest)) last) in
+      ⊎-elim
+      (λ (k : BlockAt (total l) gap 0 (h .blocks)). absurd (gap-last (one-block (total l) last gap (h .blocks) (b .heap .order) a k)))
+      (λ (k : InTable m (total l)). ⊎-elim
+      (λ (q : endOf m (k .0) ≤ g). p .ends (k .0) (omega arith) (omega (arith, k .1)) (omega (arith, k .3)))
+      (λ (q : g + len ≤ firstOf m (k .0)). absurd (omega (arith, k .2)))
+      (p .clear (k .0) (omega arith) (omega (arith, k .1))))
+      (b .given .either (total l) (omega (arith, spot-inside g len (h .blocks) s)))
+
+  -- behind a gap, and at the arena's start, none did
+  gap-before : (l : List Block) → s .before ≡ gap ∷ l → (j : ℕ) → j < m Table 0 → endOf m j ≡ g → ⊥
+  gap-before l e j k q =
+      let x : g ≡ total l + 1 = sym (s .place) ∙ ap total e in
+      let w : h .blocks ≡ gap ∷ l ⟨⟩ gaps len (s .rest) = s .whole ∙ ap (λ (t : List Block). t ⟨⟩ gaps len (s .rest)) e in
+      b .given .never (total l) (rw w (at-here l (gaps len (s .rest)) gap)) (j, k, omega (arith, b .given .sane j k .0), omega arith)
+
+  none-before : s .before ≡ [] → (j : ℕ) → j < m Table 0 → endOf m j ≡ g → ⊥
+  none-before e j k q = omega (arith, b .given .sane j k .0, s .place, ap total e)
+
+  before-out : sideL (s .before) ≡ out
+  before-out = go len (omega arith) (order-split (s .before) (gaps len (s .rest)) (subst (Ordered out) (s .whole) (b .heap .order)) .1)
+    where
+      go : (k : ℕ) → 1 ≤ k → Ordered (sideL (s .before)) (gaps k (s .rest)) → sideL (s .before) ≡ out
+      go zero q o = absurd (omega arith)
+      go (suc k) q o = gap-out (sideL (s .before)) (o .0)
+
+-- a region that must begin where another ended
+pub append-meets : (most n c g len : ℕ) (m : Memory) (h : Heap) → Sound n c m h → 1 ≤ c → m Table 0 < most → Meets n c m (regionScript most 1 n c g len) (append c h g len)
+append-meets most n c g len m h b big room = go (judged most 1 n c g len m room h b)
+  where
+    o : Ordered out (h .blocks)
+    o = b .heap .order
+
+    alone : (near : g + len ≤ n) (p : Passed n g len m (m Table 0) 0 nothing-seen) (s : Spot g len (h .blocks)) → 2 ≤ len
+        → ((l : List Block) → s .before ≡ last ∷ l → ⊥) → ((j : ℕ) → j < m Table 0 → endOf m j ≡ g → ⊥) → Meets n c m (regionScript most 1 n c g len) (append c h g len)
+    alone near p s two k e = rw (append-alone c h g len o (omega arith) s k)
+        (passes most 1 n c g len m room h b two near p s
+        ∙ halts m (unlessLe 4 1 (p .looked .meets)) _ (halts-le m 4 1 (p .looked .meets) (omega (arith, p .alone (λ j u v. e j (omega arith))))))
+
+    behind : (near : g + len ≤ n) (p : Passed n g len m (m Table 0) 0 nothing-seen) (s : Spot g len (h .blocks)) → 2 ≤ len → (l : List Block) → s .before ≡ l
+        → Meets n c m (regionScript most 1 n c g len) (append c h g len)
+    behind near p s two [] e = alone near p s two (λ l q. let z : _≡_ {A = ℕ} 0 1 = cc in omega arith) (none-before n c g len m h b p s two e)
+    behind near p s two (free t ∷ l) e = let q : idle ≡ out = sym (ap sideL e) ∙ before-out n c g len m h b p s two in let z : _≡_ {A = ℕ} 0 1 = cc in absurd (omega arith)
+    behind near p s two (used t d ∷ l) e = let q : busy ≡ out = sym (ap sideL e) ∙ before-out n c g len m h b p s two in let z : _≡_ {A = ℕ} 0 1 = cc in absurd (omega arith)
+    behind near p s two (last ∷ l) e = rw (append-spot c h g len o two s l e)
+        (grants most 1 n c g len m room h b two near p s big (omega (arith, ended n c g len m h b p s two l e)))
+    behind near p s two (gap ∷ l) e = alone near p s two (λ t q. let z : _≡_ {A = ℕ} 0 1 = cc in omega arith) (gap-before n c g len m h b p s two l e)
+
+    go : Judged most 1 n c g len m room h b → Meets n c m (regionScript most 1 n c g len) (append c h g len)
+    go (inl k) = rw (append-none c h g len o (k .1)) (k .0)
+    go (inr k) = behind (k .1) (k .2) (k .3) (k .0) (k .3 .before) refl
