@@ -10,5 +10,9 @@ pub mod Members
 pub mod Pieces
 pub mod Moves
 pub mod Neighbours
+pub mod Placing
+pub mod Kept
+pub mod Promises
+pub mod NotLive
 pub mod Gaps
 pub mod Regions

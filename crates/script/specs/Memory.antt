@@ -146,3 +146,8 @@ untouched-append g (w ∷ p) q a b = (a .0, untouched-append g p q (a .1) b)
 pub spared-append : (g y : ℕ) (p q : List Write) → Spared g y p → Spared g y q → Spared g y (p ++ q)
 spared-append g y [] q a b = b
 spared-append g y (w ∷ p) q a b = (a .0, spared-append g y p q (a .1) b)
+
+-- what becomes of a field hangs on that field alone
+pub apply-alike : (m d : Memory) (l : List Write) (g : ℕ) → m g ≡ d g → apply m l g ≡ apply d l g
+apply-alike m d [] g e = e
+apply-alike m d (w ∷ l) g e = apply-alike (put m w) (put d w) l g (ap (λ (f : ℕ → ℕ). pick (w .field) g (upd f (w .place) (w .value)) f) e)

@@ -194,6 +194,23 @@ few-bind i (stop r) f n m h q = tt
 pub few-then : {A B : Type 0} (i : ℕ) (s : Script A) (f : A → Script B) (m : ℕ) → AtMost 0 s 0 → ((a : A) → AtMost i (f a) m) → AtMost i (s >>= f) m
 few-then i s f m h q = rw (zero-add m) at (few-bind i s f 0 m h q)
 
+-- a script that searches no map may be allowed to
+pub few-plain : {A : Type 0} (i : ℕ) (s : Script A) (n : ℕ) → AtMost 0 s n → AtMost i s n
+few-plain i (read f x k) zero h = absurd h
+few-plain i (read f x k) (suc n) h = λ v. few-plain i (k v) n (h v)
+few-plain i (first m x k) n h = absurd h
+few-plain i (done a) n h = tt
+few-plain i (stop r) n h = tt
+
+-- the steps after the first search no map
+pub few-after : {A B : Type 0} (i : ℕ) (s : Script A) (f : A → Script B) (n m : ℕ) → AtMost i s n → ((a : A) → AtMost 0 (f a) m) → AtMost i (s >>= f) (n + m)
+few-after i (read g x k) f zero m h q = absurd h
+few-after i (read g x k) f (suc n) m h q = rw (suc-add n m) (λ v. few-after i (k v) f n m (h v) q)
+few-after zero (first l x k) f n m h q = absurd h
+few-after (suc i) (first l x k) f n m h q = λ v. few-after i (k v) f n m (h v) q
+few-after i (done a) f n m h q = few-plain i (f a) (n + m) (more-by 0 (f a) n m (q a))
+few-after i (stop r) f n m h q = tt
+
 -- ---- a script on the memory as it will be after some writes, run on the memory as it is
 
 unfoldable pub over : {A : Type 0} → List Write → Script A → Script A
@@ -220,3 +237,39 @@ over-run m l (read f x k) (suc n) h =
 over-run m l (first i x k) n h = absurd h
 over-run m l (done a) n h = refl
 over-run m l (stop r) n h = refl
+
+-- ---- what holds of every answer that a script may give, on any memory
+
+abbrev pub Ends : {A : Type 0} → (A → Type 0) → Script A → Type 0
+Ends P (read f x k) = (v : ℕ) → Ends P (k v)
+Ends P (first n x k) = (v : ℕ) → Ends P (k v)
+Ends P (done a) = P a
+Ends P (stop r) = Unit {0}
+
+pub ends-bind : {A B : Type 0} (Q : A → Type 0) (P : B → Type 0) (s : Script A) (f : A → Script B) → Ends Q s → ((a : A) → Q a → Ends P (f a)) → Ends P (s >>= f)
+ends-bind Q P (read g x k) f h q = λ v. ends-bind Q P (k v) f (h v) q
+ends-bind Q P (first n x k) f h q = λ v. ends-bind Q P (k v) f (h v) q
+ends-bind Q P (done a) f h q = q a h
+ends-bind Q P (stop r) f h q = tt
+
+-- whatever the first step answers
+pub ends-any : {A B : Type 0} (P : B → Type 0) (s : Script A) (f : A → Script B) → ((a : A) → Ends P (f a)) → Ends P (s >>= f)
+ends-any P (read g x k) f q = λ v. ends-any P (k v) f q
+ends-any P (first n x k) f q = λ v. ends-any P (k v) f q
+ends-any P (done a) f q = q a
+ends-any P (stop r) f q = tt
+
+pub ends-over : {A : Type 0} (P : A → Type 0) (l : List Write) (s : Script A) → Ends P s → Ends P (over l s)
+unfolding over
+ends-over P l (read f x k) h = λ v. ends-over P l (k (latest l f x v)) (h (latest l f x v))
+ends-over P l (first n x k) h = tt
+ends-over P l (done a) h = h
+ends-over P l (stop r) h = tt
+
+-- and so of the answer that it gives
+pub ends-gives : {A : Type 0} (P : A → Type 0) (m : Memory) (s : Script A) {a : A} → Ends P s → Gives m s a → P a
+unfolding run
+ends-gives P m (read f x k) h g = ends-gives P m (k (m f x)) (h (m f x)) g
+ends-gives P m (first n x k) h g = ends-gives P m (k (firstSet (m Mark) n x)) (h (firstSet (m Mark) n x)) g
+ends-gives P m (done b) {a} h g = let e : b ≡ a = cc in subst P e h
+ends-gives P m (stop r) h g = let z : _≡_ {A = ℕ} 0 1 = cc in absurd (omega arith)

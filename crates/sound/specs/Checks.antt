@@ -206,7 +206,7 @@ few-head n k h b = few-bind 0 (ifEq h none (mustEq b 0) _) _ 1 0
     (λ _. few-then 0 (mustGrain n h) _ 1 (few-le 0 5 _ _) λ _. few-then 0 (mustEq b 1) _ 1 (few-eq 0 5 _ _) λ _ v. few-eq 0 5 v none))
     (λ _. tt)
 
-few-busy : (i : ℕ) (w : Word) → AtMost i (asBusy w) 0
+pub few-busy : (i : ℕ) (w : Word) → AtMost i (asBusy w) 0
 few-busy i (isFree s) = tt
 few-busy i (isUsed s) = tt
 few-busy i isLast = tt

@@ -26,10 +26,10 @@ abbrev pub splitWrites : ℕ → ℕ → ℕ → List Write
 splitWrites x t m = (Size at x ≔ usedWord m) ∷ (Size at x + m ≔ freeWord (t - m)) ∷ (Before at x + m ≔ x) ∷ (Before at x + t ≔ x + m) ∷ []
 
 unfoldable pub leaveScript : ℕ → ℕ → List Write → ℕ → ℕ → ℕ → Script (List Write)
-leaveScript n c w x t m = ifEq m t (done (wholeWrites x t ++ w)) (do
+leaveScript n c w x t m = ifEq m t (done (w ++ wholeWrites x t)) (do
   mustList c (t - m)
   h ← seeHead n (listOf (t - m))
-  done (splitWrites x t m ++ (w ++ pushWrites (listOf (t - m)) (x + m) (latest w Next (root (listOf (t - m))) h))))
+  done ((w ++ pushWrites (listOf (t - m)) (x + m) (latest w Next (root (listOf (t - m))) h)) ++ splitWrites x t m))
 
 -- the payload's place d in the block at x
 abbrev pub padWrites : ℕ → ℕ → List Write
@@ -72,16 +72,14 @@ takeScript n c p a = do
 
 -- ---- return
 
+abbrev pub freeWrites : ℕ → ℕ → ℕ → List Write
+freeWrites q z t = (Size at z ≔ freeWord t) ∷ (Before at z + t ≔ z) ∷ (Live at q ≔ 0) ∷ []
+
 unfoldable pub joinScript : ℕ → ℕ → ℕ → ℕ → ℕ → List Write → Script Plan
 joinScript n c q z t w = do
   mustList c t
   h ← seeHead n (listOf t)
-  done (record {
-    answer = 0;
-    moved = 0;
-    writes = (Size at z ≔ freeWord t) ∷ (Before at z + t ≔ z)
-        ∷ (w ++ (pushWrites (listOf t) z (latest w Next (root (listOf t)) h) ++ ((Live at q ≔ 0) ∷ [])));
-  })
+  done (record { answer = 0; moved = 0; writes = (w ++ pushWrites (listOf t) z (latest w Next (root (listOf t)) h)) ++ freeWrites q z t })
 
 unfoldable pub giveBackScript : ℕ → ℕ → ℕ → Script Plan
 giveBackScript n c q = do
