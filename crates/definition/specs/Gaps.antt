@@ -13,18 +13,22 @@ use Rattle.definition.specs.Moves.{free-gap}
 
 -- ---- gaps, in front of a list and behind the blocks before
 
+-- each is one grain
 pub total-gaps : (n : ℕ) (r : List Block) → total (gaps n r) ≡ total r + n
 total-gaps zero r = omega arith
 total-gaps (suc n) r = omega (arith, total-gaps n r)
 
+-- some, and some more
 pub gaps-add : (n k : ℕ) (r : List Block) → gaps (n + k) r ≡ gaps n (gaps k r)
 gaps-add zero k r = rw (zero-add k)
 gaps-add (suc n) k r = rw (suc-add n k) (ap (λ (t : List Block). gap ∷ t) (gaps-add n k r))
 
+-- one more behind them, or in front
 gaps-more : (n : ℕ) (r : List Block) → gaps n (gap ∷ r) ≡ gap ∷ gaps n r
 gaps-more zero r = refl
 gaps-more (suc n) r = ap (λ (t : List Block). gap ∷ t) (gaps-more n r)
 
+-- those that stand last before a place stand first behind an earlier one
 pub gaps-zip : (n : ℕ) (l r : List Block) → gaps n l ⟨⟩ r ≡ l ⟨⟩ gaps n r
 gaps-zip zero l r = refl
 gaps-zip (suc n) l r = gaps-zip n l (gap ∷ r) ∙ ap (λ (t : List Block). l ⟨⟩ t) (gaps-more n r)
@@ -38,10 +42,12 @@ bare-gaps (suc n) (used s d ∷ r) h = absurd (omega arith)
 bare-gaps (suc n) (last ∷ r) h = absurd (omega arith)
 bare-gaps (suc n) (gap ∷ r) h = ap (λ (t : List Block). gap ∷ t) (bare-gaps n r (omega arith))
 
+-- that many stand first
 pub gaps-bare : (n : ℕ) (r : List Block) → n ≤ bare (gaps n r)
 gaps-bare zero r = omega arith
 gaps-bare (suc n) r = omega (arith, gaps-bare n r)
 
+-- and behind them what stood there
 pub gaps-without : (n : ℕ) (r : List Block) → without n (gaps n r) ≡ r
 gaps-without zero r = refl
 gaps-without (suc n) r = gaps-without n r
@@ -51,17 +57,20 @@ pub gaps-order : (n : ℕ) (l : List Block) → OrderedL (gaps n l) → OrderedL
 gaps-order zero l w = w
 gaps-order (suc n) l w = gaps-order n l (w .2)
 
+-- no free block is among them
 pub gaps-free : (n y t : ℕ) (l : List Block) → LeftAt y (free t) (gaps n l) → LeftAt y (free t) l
 gaps-free zero y t l h = h
 gaps-free (suc n) y t l (inl h) = absurd (free-gap (h .1))
 gaps-free (suc n) y t l (inr h) = gaps-free n y t l h
 
+-- and none before them is lost
 pub free-gaps : (n y t : ℕ) (l : List Block) → LeftAt y (free t) l → LeftAt y (free t) (gaps n l)
 free-gaps zero y t l h = h
 free-gaps (suc n) y t l h = inr (free-gaps n y t l h)
 
 -- ---- where they stand
 
+-- a gap is no other block
 pub gap-free : {s : ℕ} → free s ≡ gap → ⊥
 gap-free e = let z : _≡_ {A = ℕ} 0 1 = cc in omega arith
 
@@ -71,16 +80,19 @@ gap-used e = let z : _≡_ {A = ℕ} 0 1 = cc in omega arith
 pub gap-last : last ≡ gap → ⊥
 gap-last e = let z : _≡_ {A = ℕ} 0 1 = cc in omega arith
 
+-- one at each of their grains
 pub gaps-at : (n y x : ℕ) (r : List Block) → x ≤ y → y < x + n → BlockAt y gap x (gaps n r)
 gaps-at zero y x r a b = absurd (omega arith)
 gaps-at (suc n) y x r a b = ⊎-elim (λ (e : y ≤ x). inl (omega arith, refl)) (λ (e : x < y). inr (gaps-at n y (x + 1) r (omega arith) (omega arith))) (le? y x)
 
+-- what stands behind them
 pub gaps-behind : (n y x : ℕ) (b : Block) (r : List Block) → BlockAt y b (x + n) r → BlockAt y b x (gaps n r)
 gaps-behind zero y x b r h = rw (add-zero x) at h
 gaps-behind (suc n) y x b r h =
     let e : x + suc n ≡ x + 1 + n = omega arith in
     inr (gaps-behind n y (x + 1) b r (rw e at h))
 
+-- nothing else stands there
 pub gaps-cases : (n y x : ℕ) (b : Block) (r : List Block) → BlockAt y b x (gaps n r) → ((x ≤ y) × (y < x + n) × (gap ≡ b)) ⊎ BlockAt y b (x + n) r
 gaps-cases zero y x b r h = inr (rw (add-zero x) h)
 gaps-cases (suc n) y x b r (inl h) = inl (omega (arith, h .0), omega (arith, h .0), h .1)
@@ -95,6 +107,7 @@ gap-first : (x : ℕ) (b : Block) (r : List Block) → Whole b → BlockAt x gap
 gap-first x b r w (inl h) = h .1
 gap-first x b r w (inr h) = absurd (omega (arith, some b w, at-low x gap (x + size b) r h))
 
+-- a gap further on stands behind the first
 gap-next : (y x : ℕ) (r : List Block) → x < y → BlockAt y gap x (gap ∷ r) → BlockAt y gap (x + 1) r
 gap-next y x r p (inl h) = absurd (omega (arith, h .0))
 gap-next y x r p (inr h) = h
@@ -111,6 +124,7 @@ bare-all (suc n) x a (gap ∷ r) o h =
 
 -- ---- going there
 
+-- where a block is looked for, the list falls in two parts
 pub find-parts : (key : ℕ → Block → ℕ) (v : ℕ) (l r : List Block) → let p = find key v l r in p .before ⟨⟩ p .behind ≡ l ⟨⟩ r
 unfolding find
 find-parts key v l [] = refl
@@ -168,8 +182,10 @@ module _ (g n : ℕ) (xs : List Block) (some : 1 ≤ n) (o : Ordered out xs) whe
         place = sym (s .place);
       }
 
+-- each of its grains is a gap
 pub spot-gap : (g n : ℕ) (xs : List Block) (p : Spot g n xs) (y : ℕ) → g ≤ y → y < g + n → BlockAt y gap 0 xs
 spot-gap g n xs p y a b = rw (p .whole) (at-join y gap (p .before) (gaps n (p .rest)) (inr (gaps-at n y (total (p .before)) (p .rest) (omega (arith, p .place)) (omega (arith, p .place)))))
 
+-- it lies inside the arena
 pub spot-inside : (g n : ℕ) (xs : List Block) → Spot g n xs → g + n ≤ total xs
 spot-inside g n xs p = omega (arith, p .place, ap total (p .whole), total-zip (p .before) (gaps n (p .rest)), total-gaps n (p .rest))

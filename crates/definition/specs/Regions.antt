@@ -39,14 +39,17 @@ listed-out c (used s d ∷ l) r t e h = let z : _≡_ {A = ℕ} 0 1 = cc in absu
 listed-out c (last ∷ l) r t e h = listed-swap c l (last ∷ r) (last ∷ t) (λ m k. (k .0, h (k .1))) 0
 listed-out c (gap ∷ l) r t e h = listed-swap c l (gap ∷ r) (gap ∷ t) (λ m k. h k) 0
 
+-- behind gaps a piece begins anew
 listed-gaps : (c n k : ℕ) (r : List Block) → Listed c (pieces k (gaps (suc n) r)) → Listed c (pieces 0 r)
 listed-gaps c zero k r h = h
 listed-gaps c (suc n) k r h = listed-gaps c n 0 r h
 
 module _ (c : ℕ) (f : Lists) (l r : List Block) (s : ℕ) (p : 1 ≤ s) (q : s < 2 ^ c) (o : Sane c (l ⟨⟩ gaps (suc s) r) f) where
+  -- no piece stands open before the gaps
   first-out : sideL l ≡ out
   first-out = gap-out (sideL l) (order-split l (gaps (suc s) r) (o .order) .1 .0)
 
+  -- first a used block and its sentinel stand in their place
   founded : Sane c (l ⟨⟩ used s 1 ∷ last ∷ r) f
   founded = recast c f (gaps (suc s) l) (last ∷ used s 1 ∷ l) r (omega (arith, total-gaps s l))
       (λ w. (tt, tt, (used-fits (sideL l) s 1, (p, first-half p), gaps-order (suc s) l w)))
@@ -61,6 +64,7 @@ module _ (c : ℕ) (f : Lists) (l r : List Block) (s : ℕ) (p : 1 ≤ s) (q : s
       back y t (inr (inl h)) = absurd (free-used (h .1))
       back y t (inr (inr h)) = h
 
+  -- then the block is vacated
   piece-of : Sane c (l ⟨⟩ free s ∷ last ∷ r) (push (listOf s) (total l) f)
   piece-of = vacate c f l (last ∷ r) s 1 (rw first-out tt) (tt, tt, order-split (last ∷ used s 1 ∷ l) r (founded .order) .1) founded
 
@@ -131,15 +135,16 @@ lay-some c (suc i) f l n big p h = le-case (λ (w : Laid). w .over + 2 ≤ n) n 
 
 -- ---- the calls
 
--- what a region given leaves: a heap of as many grains
-abbrev pub Kept : ℕ → Heap → Answer → Type 0
-Kept c h (refused w) = Unit {0}
-Kept c h (granted v k) = Ok c k × (total (k .blocks) ≡ total (h .blocks))
+-- a region given leaves a heap of as many grains
+abbrev pub Grown : ℕ → Heap → Answer → Type 0
+Grown c h (refused w) = Unit {0}
+Grown c h (granted v k) = Ok c k × (total (k .blocks) ≡ total (h .blocks))
 
 module _ (c : ℕ) (h : Heap) (big : 1 ≤ c) (o : Ok c h) where
-  insert-kept : (n : ℕ) (l r : List Block) → l ⟨⟩ r ≡ h .blocks → Kept c h (insertAt c h n l r)
+  -- wherever the region begins
+  insert-kept : (n : ℕ) (l r : List Block) → l ⟨⟩ r ≡ h .blocks → Grown c h (insertAt c h n l r)
   unfolding insertAt
-  insert-kept n l r e = le-case (Kept c h) n 1 _ _ (λ _. tt) (λ _. le-case (Kept c h) n (bare r) _ _
+  insert-kept n l r e = le-case (Grown c h) n 1 _ _ (λ _. tt) (λ _. le-case (Grown c h) n (bare r) _ _
       (λ q. let w = lay c n (h .lists) l n in
       let s = without n r in
       let b : h .blocks ≡ l ⟨⟩ gaps n s = sym e ∙ ap (λ (t : List Block). l ⟨⟩ t) (bare-gaps n r q) in (
@@ -148,15 +153,15 @@ module _ (c : ℕ) (h : Heap) (big : 1 ≤ c) (o : Ok c h) where
       ))
       (λ _. tt))
 
-  insert-keeps : (g n : ℕ) → Kept c h (insert c h g n)
+  insert-keeps : (g n : ℕ) → Grown c h (insert c h g n)
   unfolding insert
   insert-keeps g n = let p = find offset g [] (h .blocks) in insert-kept n (p .before) (p .behind) (find-parts offset g [] (h .blocks))
 
-  append-keeps : (g n : ℕ) → Kept c h (append c h g n)
+  append-keeps : (g n : ℕ) → Grown c h (append c h g n)
   unfolding append appendAt
   append-keeps g n = let p = find offset g [] (h .blocks) in go (p .before) (find-parts offset g [] (h .blocks))
     where
-      go : (l : List Block) → l ⟨⟩ find offset g [] (h .blocks) .behind ≡ h .blocks → Kept c h (appendAt c h n l (find offset g [] (h .blocks) .behind))
+      go : (l : List Block) → l ⟨⟩ find offset g [] (h .blocks) .behind ≡ h .blocks → Grown c h (appendAt c h n l (find offset g [] (h .blocks) .behind))
       go [] e = tt
       go (free s ∷ l) e = tt
       go (used s d ∷ l) e = tt
@@ -165,16 +170,17 @@ module _ (c : ℕ) (h : Heap) (big : 1 ≤ c) (o : Ok c h) where
 
   module _ (g n v : ℕ) (k : Heap) where
     pub insert-ok : insert c h g n ≡ granted v k → Ok c k
-    insert-ok e = subst (Kept c h) e (insert-keeps g n) .0
+    insert-ok e = subst (Grown c h) e (insert-keeps g n) .0
 
+    -- and no grain comes or goes
     pub insert-total : insert c h g n ≡ granted v k → total (k .blocks) ≡ total (h .blocks)
-    insert-total e = subst (Kept c h) e (insert-keeps g n) .1
+    insert-total e = subst (Grown c h) e (insert-keeps g n) .1
 
     pub append-ok : append c h g n ≡ granted v k → Ok c k
-    append-ok e = subst (Kept c h) e (append-keeps g n) .0
+    append-ok e = subst (Grown c h) e (append-keeps g n) .0
 
     pub append-total : append c h g n ≡ granted v k → total (k .blocks) ≡ total (h .blocks)
-    append-total e = subst (Kept c h) e (append-keeps g n) .1
+    append-total e = subst (Grown c h) e (append-keeps g n) .1
 
 -- ---- where a region is granted
 
@@ -182,12 +188,14 @@ module _ (c : ℕ) (h : Heap) (big : 1 ≤ c) (o : Ok c h) where
 abbrev pub laidOut : ℕ → Laid → List Block → Answer
 laidOut n w r = granted (n - w .over) (record { blocks = w .left ⟨⟩ gaps (w .over) r; lists = w .lists })
 
+-- at a spot
 insert-there : (c : ℕ) (h : Heap) (n : ℕ) (l r : List Block) → 2 ≤ n → insertAt c h n l (gaps n r) ≡ laidOut n (lay c n (h .lists) l n) r
 unfolding insertAt
 insert-there c h n l r k =
     le-no n 1 _ _ (omega arith) ∙ le-yes n (bare (gaps n r)) _ _ (gaps-bare n r)
     ∙ ap (λ (t : List Block). laidOut n (lay c n (h .lists) l n) t) (gaps-without n r)
 
+-- and elsewhere
 insert-nowhere : (c : ℕ) (h : Heap) (n : ℕ) (l r : List Block) → (2 ≤ n → n ≤ bare r → ⊥) → insertAt c h n l r ≡ refused noRegion
 unfolding insertAt
 insert-nowhere c h n l r k = le-case (λ (a : Answer). a ≡ refused noRegion) n 1 _ _ (λ _. refl)

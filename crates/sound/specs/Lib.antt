@@ -21,6 +21,7 @@ pub mod Determined
 pub mod Fresh
 pub mod Skips
 pub mod ReturnSound
+pub mod Founded
 pub mod Laying
 pub mod RegionTable
 pub mod RegionSound

@@ -5,101 +5,46 @@ use native.Mathlib.Omega.{arith}
 use mathlib.Core.Path.{_≡_, refl, ap, sym, _∙_, subst}
 use mathlib.Core.List.{List, [], _∷_, _++_}
 use mathlib.Core.Logic.{_⊎_, inl, inr, ⊎-elim}
-use Rattle.choice.specs.Choice.{ifEq, ifLe, eq-no, le?, upd-same, upd-other}
-use Rattle.definition.specs.Blocks.{Block, free, used, last, gap, size, total, _⟨⟩_, gaps}
+use Rattle.choice.specs.Choice.{ifEq, eq-no, le?, upd-same, upd-other}
+use Rattle.definition.specs.Blocks.{Block, free, used, last, gap, total, _⟨⟩_, gaps}
 use Rattle.definition.specs.Lists.{Lists}
-use Rattle.definition.specs.Calls.{Heap, noRegion, Answer, refused, granted, Laid, lay, insert, append}
-use Rattle.definition.specs.Order.{Side, out, busy, idle, sideL, at-here, Ordered, OrderedL, order-split, total-zip, BlockAt, LeftAt, at-split, at-join, at-low, left-lt}
-use Rattle.definition.specs.Gaps.{Spot, gaps-spot, spot-gap, spot-inside, total-gaps, gaps-at, gaps-behind, gaps-cases, gap-last}
-use Rattle.definition.specs.Regions.{lay-total, lay-gap, lay-old, lay-some, laidOut, gap-out, insert-spot, insert-none, append-spot, append-alone, append-none}
-use Rattle.script.specs.Memory.{Memory, Size, Before, Next, Prev, Mark, Live, Table, none, Write, _at_≔_, apply, apply-append, apply-untouched}
-use Rattle.script.specs.Script.{Script, Gives, Result, ok, no, run, done, stop, reads, goes, halts, gives-eq, gives-le, gives-done, halts-le, unlessLe, mustEq, mustLe, get, _>>=_, _>>_}
-use Rattle.sound.specs.Sound.{Lively, Padded, InTable, Given, Sound}
+use Rattle.definition.specs.Calls.{Heap, lay, insert, append}
+use Rattle.definition.specs.Order.{out, busy, idle, sideL, Ordered, order-split, BlockAt, at-here}
+use Rattle.definition.specs.Gaps.{Spot, gaps-spot, spot-gap, spot-inside, gap-last}
+use Rattle.definition.specs.Regions.{laidOut, gap-out, insert-spot, insert-none, append-spot, append-alone, append-none}
+use Rattle.script.specs.Memory.{Memory, Table, Write, _at_≔_, apply, apply-append, apply-untouched}
+use Rattle.script.specs.Script.{Script, no, run, done, stop, reads, goes, halts, gives-eq, gives-le, gives-done, halts-le, unlessLe, mustEq, mustLe, _>>=_, _>>_}
+use Rattle.sound.specs.Sound.{InTable, Given, Sound}
 use Rattle.sound.specs.Plans.{Plan}
 use Rattle.sound.specs.RegionPlan.{Looked, seeRegions, Layout, layScript, regionScript}
 use Rattle.sound.specs.Meets.{Meets, Grants}
-use Rattle.sound.specs.Laying.{Founded, one-block, Lays, lays}
-use Rattle.sound.specs.RegionTable.{firstOf, endOf, Overlap, Passed, look, Longer, Filled, given-more}
-
--- ---- the gaps that are left
-
-gaps-shift : (x k z j y : ℕ) (r : List Block) → x + k ≡ z + j → z ≤ y → BlockAt y gap x (gaps k r) → BlockAt y gap z (gaps j r)
-gaps-shift x k z j y r e h i = ⊎-elim
-    (λ (a : (x ≤ y) × (y < x + k) × (gap ≡ gap)). gaps-at j y z r h (omega (arith, a .1)))
-    (λ (a : BlockAt y gap (x + k) r). gaps-behind j y z gap r (rw e at a))
-    (gaps-cases k y x gap r i)
-
--- a region of len grains laid at its spot
-module _ (c : ℕ) (big : 1 ≤ c) (f : Lists) (g len : ℕ) (xs : List Block) (p : Spot g len xs) (two : 2 ≤ len) (o : Ordered out xs) where
-  -- how it is laid, and where it ends
-  abbrev laying : Laid
-  laying = lay c len f (p .before) len
-
-  end : g + (len - laying .over) ≡ total (laying .left)
-  end = omega (arith, lay-total c big len f (p .before) len, p .place, lay-some c len f (p .before) len big (omega arith) two)
-
-  over-end : total (laying .left) + laying .over ≡ g + len
-  over-end = omega (arith, lay-total c big len f (p .before) len, p .place)
-
-  filled : Filled xs (laying .left ⟨⟩ gaps (laying .over) (p .rest)) g (g + (len - laying .over))
-  filled = record {
-    same = omega (
-      arith,
-      over-end,
-      p .place,
-      ap total (p .whole),
-      total-zip (p .before) (gaps len (p .rest)),
-      total-gaps len (p .rest),
-      total-zip (laying .left) (gaps (laying .over) (p .rest)),
-      total-gaps (laying .over) (p .rest),
-    );
-    some = omega (arith, lay-some c len f (p .before) len big (omega arith) two);
-    inside = omega (arith, spot-inside g len xs p);
-    still = λ y h k. at-join y gap (laying .left) (gaps (laying .over) (p .rest)) (still y k (at-split y gap (p .before) (gaps len (p .rest)) (subst (λ (t : List Block). BlockAt y gap 0 t) (p .whole) h)));
-    was = λ y h. rw (p .whole) (at-join y gap (p .before) (gaps len (p .rest)) (was y (at-split y gap (laying .left) (gaps (laying .over) (p .rest)) h)));
-    gone = λ y h a b. gone y a b (at-split y gap (laying .left) (gaps (laying .over) (p .rest)) h);
-  }
-    where
-      still : (y : ℕ) → (y < g) ⊎ (g + (len - laying .over) ≤ y) → LeftAt y gap (p .before) ⊎ BlockAt y gap (total (p .before)) (gaps len (p .rest))
-          → LeftAt y gap (laying .left) ⊎ BlockAt y gap (total (laying .left)) (gaps (laying .over) (p .rest))
-      still y k (inl h) = inl (lay-old c big len f (p .before) len y gap h)
-      still y k (inr h) =
-          let b = at-low y gap (total (p .before)) (gaps len (p .rest)) h in
-          let z : total (laying .left) ≤ y = ⊎-elim (λ (a : y < g). absurd (omega (arith, p .place))) (λ (a : g + (len - laying .over) ≤ y). omega (arith, end)) k in
-          inr (gaps-shift (total (p .before)) len (total (laying .left)) (laying .over) y (p .rest) (omega (arith, over-end, p .place)) z h)
-
-      was : (y : ℕ) → LeftAt y gap (laying .left) ⊎ BlockAt y gap (total (laying .left)) (gaps (laying .over) (p .rest))
-          → LeftAt y gap (p .before) ⊎ BlockAt y gap (total (p .before)) (gaps len (p .rest))
-      was y (inl h) = inl (lay-gap c big len f (p .before) len y h)
-      was y (inr h) =
-          let b = at-low y gap (total (laying .left)) (gaps (laying .over) (p .rest)) h in
-          inr (gaps-shift (total (laying .left)) (laying .over) (total (p .before)) len y (p .rest) (omega (arith, over-end, p .place)) (omega (arith, end, p .place)) h)
-
-      gone : (y : ℕ) → g ≤ y → y < g + (len - laying .over) → LeftAt y gap (laying .left) ⊎ BlockAt y gap (total (laying .left)) (gaps (laying .over) (p .rest)) → ⊥
-      gone y a b (inl h) =
-          let w = order-split (p .before) (gaps len (p .rest)) (subst (Ordered out) (p .whole) o) .0 in
-          omega (arith, p .place, left-lt y gap (p .before) w (lay-gap c big len f (p .before) len y h))
-      gone y a b (inr h) = omega (arith, end, at-low y gap (total (laying .left)) (gaps (laying .over) (p .rest)) h)
+use Rattle.sound.specs.Founded.{Founded, sound-founded, one-block}
+use Rattle.sound.specs.Laying.{lays}
+use Rattle.sound.specs.RegionTable.{firstOf, endOf, Overlap, Passed, look, Longer, given-more, filled}
 
 -- ---- the table's three words
 
+-- region r, from g to e, is entered
 abbrev entryWrites : ℕ → ℕ → ℕ → List Write
 entryWrites r g e = (Table at 2 * r + 1 ≔ g) ∷ (Table at 2 * r + 2 ≔ e) ∷ (Table at 0 ≔ suc r) ∷ []
 
-entered : (m q : Memory) (g e : ℕ) → q Table ≡ m Table → Longer m (apply q (entryWrites (m Table 0) g e)) g e
-entered m q g e h =
-    let r = m Table 0 in
-    record {
-      count = upd-same _ 0 (suc r) 0 refl;
-      old = λ j k. (
-        upd-other _ 0 (suc r) (2 * j + 1) (omega arith) ∙ upd-other _ (2 * r + 2) e (2 * j + 1) (omega arith) ∙ upd-other (q Table) (2 * r + 1) g (2 * j + 1) (omega arith) ∙ ap (λ (t : ℕ → ℕ). t (2 * j + 1)) h,
-        upd-other _ 0 (suc r) (2 * j + 2) (omega arith) ∙ upd-other _ (2 * r + 2) e (2 * j + 2) (omega arith) ∙ upd-other (q Table) (2 * r + 1) g (2 * j + 2) (omega arith) ∙ ap (λ (t : ℕ → ℕ). t (2 * j + 2)) h,
-      );
-      new = (
-        upd-other _ 0 (suc r) (2 * r + 1) (omega arith) ∙ upd-other _ (2 * r + 2) e (2 * r + 1) (omega arith) ∙ upd-same (q Table) (2 * r + 1) g (2 * r + 1) refl,
-        upd-other _ 0 (suc r) (2 * r + 2) (omega arith) ∙ upd-same _ (2 * r + 2) e (2 * r + 2) refl,
-      );
-    }
+module _ (m q : Memory) (g e : ℕ) (h : q Table ≡ m Table) where
+  abbrev more : Memory
+  more = apply q (entryWrites (m Table 0) g e)
+
+  -- no other word is written
+  other : (i : ℕ) → (i ≡ 0 → ⊥) → (i ≡ 2 * m Table 0 + 1 → ⊥) → (i ≡ 2 * m Table 0 + 2 → ⊥) → more Table i ≡ m Table i
+  other i a b c = upd-other _ 0 (suc (m Table 0)) i a ∙ upd-other _ (2 * m Table 0 + 2) e i c ∙ upd-other (q Table) (2 * m Table 0 + 1) g i b ∙ ap (λ (t : ℕ → ℕ). t i) h
+
+  entered : Longer m more g e
+  entered = record {
+    count = upd-same _ 0 (suc (m Table 0)) 0 refl;
+    old = λ j k. (other (2 * j + 1) (omega arith) (omega arith) (omega arith), other (2 * j + 2) (omega arith) (omega arith) (omega arith));
+    new = (
+      upd-other _ 0 (suc (m Table 0)) (2 * m Table 0 + 1) (omega arith) ∙ upd-other _ (2 * m Table 0 + 2) e (2 * m Table 0 + 1) (omega arith) ∙ upd-same (q Table) (2 * m Table 0 + 1) g _ refl,
+      upd-other _ 0 (suc (m Table 0)) (2 * m Table 0 + 2) (omega arith) ∙ upd-same _ (2 * m Table 0 + 2) e (2 * m Table 0 + 2) refl,
+    );
+  }
 
 -- with its entry the region is sound
 founded-sound : (n c : ℕ) (q : Memory) (r g e : ℕ) (zs : List Block) (f : Lists) → Founded n c q zs f → Given (apply q (entryWrites r g e)) zs
@@ -117,6 +62,7 @@ founded-sound n c q r g e zs f o v = record {
 
 -- ---- the script
 
+-- before the first entry
 abbrev nothing-seen : Looked
 nothing-seen = record { meets = 0; wrong = 0 }
 
@@ -139,12 +85,15 @@ module _ (most behind n c g len : ℕ) (m : Memory) (room : m Table 0 < most) wh
   enters = reads m Table 0 _ refl
       ∙ goes m (ifEq (m Table 0) most (stop 6) (done (tt {0}))) _ (ap (run m) (eq-no (m Table 0) most _ _ (λ e. omega arith)) ∙ gives-done m (tt {0}))
 
+  -- a region of less than two grains is refused
   too-short : len < 2 → run m script ≡ no 4
   too-short h = enters ∙ halts m (unlessLe 4 2 len) _ (halts-le m 4 2 len h)
 
+  -- and one that ends outside the arena
   too-far : 2 ≤ len → n < g + len → run m script ≡ no 4
   too-far h k = enters ∙ goes m (unlessLe 4 2 len) _ (gives-le m 4 2 len h) ∙ halts m (unlessLe 4 (g + len) n) _ (halts-le m 4 (g + len) n k)
 
+  -- else the table is looked through
   looks : 2 ≤ len → g + len ≤ n → run m script ≡ run m (seeRegions n g len (m Table 0) 0 nothing-seen >>= afterLook behind n c g len (m Table 0))
   looks h k = enters ∙ goes m (unlessLe 4 2 len) _ (gives-le m 4 2 len h) ∙ goes m (unlessLe 4 (g + len) n) _ (gives-le m 4 (g + len) n k)
       ∙ goes m (mustLe (m Table 0) most) _ (gives-le m 5 (m Table 0) most (omega arith))
@@ -155,6 +104,7 @@ module _ (most behind n c g len : ℕ) (m : Memory) (room : m Table 0 < most) wh
     Judged = ((run m script ≡ no 4) × (2 ≤ len → Spot g len (h .blocks) → ⊥))
         ⊎ ((2 ≤ len) × (g + len ≤ n) × Passed n g len m (m Table 0) 0 nothing-seen × Spot g len (h .blocks))
 
+    -- grains that are in no region are gaps
     apart-spot : 2 ≤ len → g + len ≤ n → Passed n g len m (m Table 0) 0 nothing-seen → Spot g len (h .blocks)
     apart-spot two near p = gaps-spot g len (h .blocks) (omega arith) (b .heap .order) (λ y u v. ⊎-elim
         (λ (k : BlockAt y gap 0 (h .blocks)). k)
@@ -164,6 +114,7 @@ module _ (most behind n c g len : ℕ) (m : Memory) (room : m Table 0 < most) wh
         (p .clear (k .0) (omega arith) (omega (arith, k .1)))))
         (b .given .either y (omega (arith, b .whole))))
 
+    -- one of the two holds
     judged : Judged
     judged = ⊎-elim
         (λ (two : 2 ≤ len). ⊎-elim
@@ -184,8 +135,7 @@ module _ (most behind n c g len : ℕ) (m : Memory) (room : m Table 0 < most) wh
       passes = looks two near ∙ goes m (seeRegions n g len (m Table 0) 0 nothing-seen) _ (p .gives)
 
       spot-founded : Founded n c m (s .before ⟨⟩ gaps len (s .rest)) (h .lists)
-      spot-founded = subst (λ (xs : List Block). Founded n c m xs (h .lists)) (s .whole)
-          (record { heap = b .heap; whole = b .whole; small = b .small; row = b .row; strung = b .strung; lively = b .lively; padded = b .padded })
+      spot-founded = subst (λ (xs : List Block). Founded n c m xs (h .lists)) (s .whole) (sound-founded n c m h b)
 
       -- granted as the definition says
       grants : 1 ≤ c → behind ≤ p .looked .meets → Meets n c m script (laidOut len (lay c len (h .lists) (s .before) len) (s .rest))
@@ -230,16 +180,18 @@ module _ (n c g len : ℕ) (m : Memory) (h : Heap) (b : Sound n c m h) (p : Pass
       (p .clear (k .0) (omega arith) (omega (arith, k .1))))
       (b .given .either (total l) (omega (arith, spot-inside g len (h .blocks) s)))
 
-  -- behind a gap, and at the arena's start, none did
+  -- behind a gap none did
   gap-before : (l : List Block) → s .before ≡ gap ∷ l → (j : ℕ) → j < m Table 0 → endOf m j ≡ g → ⊥
   gap-before l e j k q =
       let x : g ≡ total l + 1 = sym (s .place) ∙ ap total e in
       let w : h .blocks ≡ gap ∷ l ⟨⟩ gaps len (s .rest) = s .whole ∙ ap (λ (t : List Block). t ⟨⟩ gaps len (s .rest)) e in
       b .given .never (total l) (rw w (at-here l (gaps len (s .rest)) gap)) (j, k, omega (arith, b .given .sane j k .0), omega arith)
 
+  -- nor at the arena's start
   none-before : s .before ≡ [] → (j : ℕ) → j < m Table 0 → endOf m j ≡ g → ⊥
   none-before e j k q = omega (arith, b .given .sane j k .0, s .place, ap total e)
 
+  -- before a gap stands a sentinel, a gap or nothing
   before-out : sideL (s .before) ≡ out
   before-out = go len (omega arith) (order-split (s .before) (gaps len (s .rest)) (subst (Ordered out) (s .whole) (b .heap .order)) .1)
     where

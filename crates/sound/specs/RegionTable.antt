@@ -5,8 +5,12 @@ use mathlib.Core.Path.{_≡_, refl, ap, sym, _∙_, subst}
 use mathlib.Core.List.{List, [], _∷_}
 use mathlib.Core.Logic.{_⊎_, inl, inr, ⊎-elim}
 use Rattle.choice.specs.Choice.{ifEq, ifLe, eq-case, eq-yes, eq-no, le?, le-yes, le-no, same?}
-use Rattle.definition.specs.Blocks.{Block, gap, total}
-use Rattle.definition.specs.Order.{BlockAt}
+use Rattle.definition.specs.Blocks.{Block, gap, total, _⟨⟩_, gaps}
+use Rattle.definition.specs.Lists.{Lists}
+use Rattle.definition.specs.Calls.{Laid, lay}
+use Rattle.definition.specs.Order.{out, Ordered, order-split, total-zip, BlockAt, LeftAt, at-split, at-join, at-low, left-lt}
+use Rattle.definition.specs.Gaps.{Spot, spot-inside, total-gaps, gaps-at, gaps-behind, gaps-cases}
+use Rattle.definition.specs.Regions.{lay-total, lay-gap, lay-old, lay-some}
 use Rattle.script.specs.Memory.{Memory, Table}
 use Rattle.script.specs.Script.{Script, Gives, Result, ok, no, run, done, stop, reads, goes, halts, gives-le, gives-done, halts-le, unlessLe, _>>=_, _>>_}
 use Rattle.sound.specs.Sound.{InTable, Given}
@@ -46,6 +50,7 @@ pub record Passed (n g len : ℕ) (m : Memory) (r i : ℕ) (l : Looked) : Type 0
 abbrev entryCheck : ℕ → ℕ → ℕ → ℕ → Script (Unit {0})
 entryCheck g len s e = ifLe e g (done (tt {0})) (unlessLe 4 (g + len) s)
 
+-- passed where the region lies apart
 entry-off : (m : Memory) (g len s e : ℕ) → (e ≤ g) ⊎ (g + len ≤ s) → Gives m (entryCheck g len s e) (tt {0})
 entry-off m g len s e (inl h) = ap (run m) (le-yes e g _ _ h) ∙ gives-done m (tt {0})
 entry-off m g len s e (inr h) = ⊎-elim
@@ -53,6 +58,7 @@ entry-off m g len s e (inr h) = ⊎-elim
     (λ (k : g < e). ap (run m) (le-no e g _ _ (λ q. omega arith)) ∙ gives-le m 4 (g + len) s h)
     (le? e g)
 
+-- refused where it overlaps
 entry-on : (m : Memory) (g len s e : ℕ) → g < e → s < g + len → run m (entryCheck g len s e) ≡ no 4
 entry-on m g len s e h k = ap (run m) (le-no e g _ _ (λ q. omega arith)) ∙ halts-le m 4 (g + len) s k
 
@@ -65,10 +71,12 @@ abbrev seen : ℕ → ℕ → Memory → ℕ → Looked → Looked
 seen n g m i l = record { meets = ifEq (endOf m i) g 1 (l .meets); wrong = wrongOf n (firstOf m i) (endOf m i) (l .wrong) }
 
 module _ (n g len : ℕ) (m : Memory) where
+  -- one entry, then the others
   on-to : (r i : ℕ) (l : Looked) → run m (seeRegions n g len (suc r) i l) ≡ run m (entryCheck g len (firstOf m i) (endOf m i) >> seeRegions n g len r (suc i) (seen n g m i l))
   unfolding seeRegions
   on-to r i l = reads m Table (2 * i + 1) _ refl ∙ reads m Table (2 * i + 2) _ refl
 
+  -- an entry that lies apart, and all others
   pass-one : (r i : ℕ) (l : Looked) → firstOf m i + 2 ≤ endOf m i → endOf m i ≤ n → Off m g len i → Passed n g len m r (suc i) (seen n g m i l) → Passed n g len m (suc r) i l
   pass-one r i l a b h p = record {
     looked = p .looked;
@@ -86,6 +94,7 @@ module _ (n g len : ℕ) (m : Memory) where
   abbrev pub Look : ℕ → ℕ → Looked → Type 0
   Look r i l = ((run m (seeRegions n g len r i l) ≡ no 4) × Overlap m g len) ⊎ Passed n g len m r i l
 
+  -- one entry, if the others are looked at so
   look-one : 1 ≤ len → (r i : ℕ) (l : Looked) → i < m Table 0 → firstOf m i + 2 ≤ endOf m i → endOf m i ≤ n → Look r (suc i) (seen n g m i l) → Look (suc r) i l
   look-one p r i l u a b next = ⊎-elim
       (λ (h : endOf m i ≤ g). off (inl h) next)
@@ -100,6 +109,7 @@ module _ (n g len : ℕ) (m : Memory) where
       off h (inl k) = inl (on-to r i l ∙ goes m (entryCheck g len (firstOf m i) (endOf m i)) _ (entry-off m g len (firstOf m i) (endOf m i) h) ∙ k .0, k .1)
       off h (inr k) = inr (pass-one r i l a b h k)
 
+  -- all entries from i on
   pub look : 1 ≤ len → ((j : ℕ) → j < m Table 0 → (firstOf m j + 2 ≤ endOf m j) × (endOf m j ≤ n)) → (r i : ℕ) (l : Looked) → i + r ≡ m Table 0 → Look r i l
   unfolding seeRegions
   look p s zero i l e = inr (record {
@@ -131,12 +141,15 @@ pub record Filled (xs zs : List Block) (g e : ℕ) : Type 0 where
   pub gone : (y : ℕ) → BlockAt y gap 0 zs → g ≤ y → y < e → ⊥
 
 module _ (m d : Memory) (xs zs : List Block) (g e : ℕ) (v : Given m xs) (t : Longer m d g e) (f : Filled xs zs g e) where
+  -- a grain of an old region is in the table still
   in-old : (y : ℕ) → InTable m y → InTable d y
   in-old y h = let o = t .old (h .0) (h .1) in (h .0, omega (arith, h .1, t .count), omega (arith, o .0, h .2), omega (arith, o .1, h .3))
 
+  -- and one of the new region
   in-new : (y : ℕ) → g ≤ y → y < e → InTable d y
   in-new y a b = (m Table 0, omega (arith, t .count), omega (arith, t .new .0), omega (arith, t .new .1))
 
+  -- and no other
   in-either : (y : ℕ) → InTable d y → ((g ≤ y) × (y < e)) ⊎ InTable m y
   in-either y h = ⊎-elim
       (λ (i : m Table 0 ≤ h .0). let q : h .0 ≡ m Table 0 = omega (arith, h .1, t .count) in
@@ -144,6 +157,7 @@ module _ (m d : Memory) (xs zs : List Block) (g e : ℕ) (v : Given m xs) (t : L
       (λ (i : h .0 < m Table 0). let o = t .old (h .0) i in inr (h .0, i, omega (arith, o .0, h .2), omega (arith, o .1, h .3)))
       (le? (m Table 0) (h .0))
 
+  -- so the table with one more entry says what is given now
   pub given-more : Given d zs
   given-more = record {
     sane = λ i h. ⊎-elim
@@ -161,3 +175,66 @@ module _ (m d : Memory) (xs zs : List Block) (g e : ℕ) (v : Given m xs) (t : L
         (λ (a : (g ≤ y) × (y < e)). f .gone y h (a .0) (a .1))
         (λ (a : InTable m y). v .never y (f .was y h) a) (in-either y k);
   }
+
+-- ---- the gaps that a region leaves
+
+-- a gap among k at x is one among j at z, if both end at the same grain
+gaps-shift : (x k z j y : ℕ) (r : List Block) → x + k ≡ z + j → z ≤ y → BlockAt y gap x (gaps k r) → BlockAt y gap z (gaps j r)
+gaps-shift x k z j y r e h i = ⊎-elim
+    (λ (a : (x ≤ y) × (y < x + k) × (gap ≡ gap)). gaps-at j y z r h (omega (arith, a .1)))
+    (λ (a : BlockAt y gap (x + k) r). gaps-behind j y z gap r (rw e at a))
+    (gaps-cases k y x gap r i)
+
+-- a region of len grains laid at its spot
+module _ (c : ℕ) (big : 1 ≤ c) (f : Lists) (g len : ℕ) (xs : List Block) (p : Spot g len xs) (two : 2 ≤ len) (o : Ordered out xs) where
+  -- how it is laid, and where it ends
+  abbrev laying : Laid
+  laying = lay c len f (p .before) len
+
+  end : g + (len - laying .over) ≡ total (laying .left)
+  end = omega (arith, lay-total c big len f (p .before) len, p .place, lay-some c len f (p .before) len big (omega arith) two)
+
+  -- what is left over ends where the region was to end
+  over-end : total (laying .left) + laying .over ≡ g + len
+  over-end = omega (arith, lay-total c big len f (p .before) len, p .place)
+
+  -- the gaps are those from before, without the region
+  pub filled : Filled xs (laying .left ⟨⟩ gaps (laying .over) (p .rest)) g (g + (len - laying .over))
+  filled = record {
+    same = omega (
+      arith,
+      over-end,
+      p .place,
+      ap total (p .whole),
+      total-zip (p .before) (gaps len (p .rest)),
+      total-gaps len (p .rest),
+      total-zip (laying .left) (gaps (laying .over) (p .rest)),
+      total-gaps (laying .over) (p .rest),
+    );
+    some = omega (arith, lay-some c len f (p .before) len big (omega arith) two);
+    inside = omega (arith, spot-inside g len xs p);
+    still = λ y h k. at-join y gap (laying .left) (gaps (laying .over) (p .rest)) (still y k (at-split y gap (p .before) (gaps len (p .rest)) (subst (λ (t : List Block). BlockAt y gap 0 t) (p .whole) h)));
+    was = λ y h. rw (p .whole) (at-join y gap (p .before) (gaps len (p .rest)) (was y (at-split y gap (laying .left) (gaps (laying .over) (p .rest)) h)));
+    gone = λ y h a b. gone y a b (at-split y gap (laying .left) (gaps (laying .over) (p .rest)) h);
+  }
+    where
+      still : (y : ℕ) → (y < g) ⊎ (g + (len - laying .over) ≤ y) → LeftAt y gap (p .before) ⊎ BlockAt y gap (total (p .before)) (gaps len (p .rest))
+          → LeftAt y gap (laying .left) ⊎ BlockAt y gap (total (laying .left)) (gaps (laying .over) (p .rest))
+      still y k (inl h) = inl (lay-old c big len f (p .before) len y gap h)
+      still y k (inr h) =
+          let b = at-low y gap (total (p .before)) (gaps len (p .rest)) h in
+          let z : total (laying .left) ≤ y = ⊎-elim (λ (a : y < g). absurd (omega (arith, p .place))) (λ (a : g + (len - laying .over) ≤ y). omega (arith, end)) k in
+          inr (gaps-shift (total (p .before)) len (total (laying .left)) (laying .over) y (p .rest) (omega (arith, over-end, p .place)) z h)
+
+      was : (y : ℕ) → LeftAt y gap (laying .left) ⊎ BlockAt y gap (total (laying .left)) (gaps (laying .over) (p .rest))
+          → LeftAt y gap (p .before) ⊎ BlockAt y gap (total (p .before)) (gaps len (p .rest))
+      was y (inl h) = inl (lay-gap c big len f (p .before) len y h)
+      was y (inr h) =
+          let b = at-low y gap (total (laying .left)) (gaps (laying .over) (p .rest)) h in
+          inr (gaps-shift (total (laying .left)) (laying .over) (total (p .before)) len y (p .rest) (omega (arith, over-end, p .place)) (omega (arith, end, p .place)) h)
+
+      gone : (y : ℕ) → g ≤ y → y < g + (len - laying .over) → LeftAt y gap (laying .left) ⊎ BlockAt y gap (total (laying .left)) (gaps (laying .over) (p .rest)) → ⊥
+      gone y a b (inl h) =
+          let w = order-split (p .before) (gaps len (p .rest)) (subst (Ordered out) (p .whole) o) .0 in
+          omega (arith, p .place, left-lt y gap (p .before) w (lay-gap c big len f (p .before) len y h))
+      gone y a b (inr h) = omega (arith, end, at-low y gap (total (laying .left)) (gaps (laying .over) (p .rest)) h)
