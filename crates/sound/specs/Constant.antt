@@ -12,7 +12,7 @@ use Rattle.script.specs.Script.{Script, read, first, done, _>>=_, _>>_, get, un
 use Rattle.sound.specs.Chain.{node}
 use Rattle.sound.specs.Strung.{unlinkWrites, pushWrites}
 use Rattle.sound.specs.Checks.{wordOf, asFree, asBusy, mustGrain, mustBack, mustList, seeHead, seeBehind, seeBefore, seeOwner, Beside, nobody, somebody, Owner, few-back, few-head, few-behind, few-before, few-owner, few-free, few-busy}
-use Rattle.sound.specs.Plans.{Plan, leaveScript, wholeWrites, splitWrites, padWrites, freeWrites, leaves, afterwards, bothLeave, roomOf, takeScript, joinScript, giveBackScript, elsewhereScript, downScript, moveScript, resizeScript}
+use Rattle.sound.specs.Plans.{Plan, leaveScript, wholeWrites, splitWrites, padWrites, freeWrites, leaves, afterwards, bothLeave, roomOf, takeScript, joinScript, giveBackScript, elsewhereScript, downScript, moveScript, stretchScript, growScript, resizeScript}
 
 -- ---- reads
 
@@ -58,24 +58,29 @@ few-down n c q p a u z t w = le-case (λ (s : Script Plan). AtMost 1 s 34) (keep
     (λ _. few-bind 1 (leaveScript n c w z t (keeps (place a z) p)) _ 3 31 (few-leave n c w z t (keeps (place a z) p)) λ _. tt)
     (λ _. few-elsewhere n c q p a u)
 
+few-move : (n c q p a x s : ℕ) (b : Beside) → AtMost 1 (moveScript n c q p a x s b) 42
+unfolding moveScript
+few-move n c q p a x s b =
+    few-bind 1 (seeBefore n c x) _ 8 34 (few-before n c x) λ f.
+    eq-case (λ (s : Script Plan). AtMost 1 s 34) (roomOf f) 0 _ _ (λ _. few-elsewhere n c q p a _) (λ _. few-down n c q p a _ _ _ _)
+
 -- a resize: 55 words, and one search of the map
 pub resize-reads : (n c q p a : ℕ) → AtMost 1 (resizeScript n c q p a) 55
-unfolding resizeScript moveScript
+unfolding resizeScript growScript stretchScript
 resize-reads n c q p a =
     few-bind 1 (seeOwner q) _ 4 51 (few-owner q) λ o.
     eq-case (λ (s : Script Plan). AtMost 1 s 51) (keeps (q - 2 * o .at) p) (o .grains) _ _ (λ _. tt) λ _.
     few-bind 1 (seeBehind n c (o .at + o .grains)) _ 9 42 (few-behind n c (o .at + o .grains)) λ b.
     le-case (λ (s : Script Plan). AtMost 1 s 42) (keeps (q - 2 * o .at) p) (o .grains + roomOf b) _ _
-      (λ _. few-bind 1 (leaveScript n c (leaves b) (o .at) (o .grains + roomOf b) (keeps (q - 2 * o .at) p)) _ 3 39 (few-leave n c (leaves b) (o .at) (o .grains + roomOf b) (keeps (q - 2 * o .at) p)) λ _. tt)
-      (λ _. few-bind 1 (seeBefore n c (o .at)) _ 8 34 (few-before n c (o .at)) λ f.
-        eq-case (λ (s : Script Plan). AtMost 1 s 34) (roomOf f) 0 _ _ (λ _. few-elsewhere n c q p a _) (λ _. few-down n c q p a _ _ _ _))
+    (λ _. few-bind 1 (leaveScript n c _ _ _ _) _ 3 39 (few-leave n c (leaves b) (o .at) (o .grains + roomOf b) (keeps (q - 2 * o .at) p)) λ _. tt)
+    (λ _. few-move n c q p a (o .at) (o .grains) b)
 
 -- ---- writes
 
 unlink-length : (k x p : ℕ) → length (unlinkWrites k x p) ≤ 2
 unlink-length k x p = one (ifEq x none (ifEq p none ((Mark at k ≔ 0) ∷ []) []) ((Prev at x ≔ p) ∷ []))
     (eq-case (λ (w : List Write). length w ≤ 1) x none _ _
-      (λ _. eq-case (λ (w : List Write). length w ≤ 1) p none _ _ (λ _. omega arith) (λ _. omega arith)) (λ _. omega arith))
+    (λ _. eq-case (λ (w : List Write). length w ≤ 1) p none _ _ (λ _. omega arith) (λ _. omega arith)) (λ _. omega arith))
   where
     one : (w : List Write) → length w ≤ 1 → length ((Next at node k p ≔ x) ∷ w) ≤ 2
     one w h = omega arith
@@ -98,7 +103,7 @@ unfolding leaveScript
 leave-length n c w x t k i h = eq-case (Ends (λ v. length v ≤ i + 8)) k t _ _
     (λ _. rw length-append (omega arith))
     (λ _. ends-any _ (mustList c (t - k)) _ λ _. ends-any _ (seeHead n (listOf (t - k))) _ λ g.
-      rw (length-append, length-append) (omega (arith, push-length (listOf (t - k)) (x + k) (latest w Next (root (listOf (t - k))) g))))
+    rw (length-append, length-append) (omega (arith, push-length (listOf (t - k)) (x + k) (latest w Next (root (listOf (t - k))) g))))
 
 -- a take: 12 words
 pub take-writes : (n c p a : ℕ) → Ends (λ (t : Plan). length (t .writes) ≤ 12) (takeScript n c p a)
@@ -115,16 +120,21 @@ take-writes n c p a k =
     ends-bind (λ w. length w ≤ 10) _ (leaveScript n c (unlinkWrites k x none) y s (keeps (place a y) p)) _ (leave-length n c (unlinkWrites k x none) y s (keeps (place a y) p) 2 (unlink-length k x none)) λ w h.
     rw (length-append, length-append) (omega (arith, pad-length y (place a y)))
 
+join-length : (n c q z t : ℕ) (w : List Write) → length w ≤ 4 → Ends (λ (p : Plan). length (p .writes) ≤ 11) (joinScript n c q z t w)
+unfolding joinScript
+join-length n c q z t w i =
+    ends-any _ (mustList c t) _ λ _.
+    ends-any _ (seeHead n (listOf t)) _ λ h.
+    rw (length-append, length-append) (omega (arith, push-length (listOf t) z (latest w Next (root (listOf t)) h)))
+
 -- a return: 11 words
 pub back-writes : (n c q : ℕ) → Ends (λ (t : Plan). length (t .writes) ≤ 11) (giveBackScript n c q)
-unfolding giveBackScript joinScript
+unfolding giveBackScript
 back-writes n c q =
     ends-any _ (seeOwner q) _ λ o.
     ends-any _ (seeBehind n c _) _ λ a.
     ends-any _ (seeBefore n c _) _ λ b.
-    ends-any _ (mustList c _) _ λ _.
-    ends-any _ (seeHead n _) _ λ h.
-    rw (length-append, length-append) (omega (arith, both-length a (o .at - roomOf b) b, push-length _ _ _))
+    join-length n c q _ _ _ (both-length a (o .at - roomOf b) b)
 
 elsewhere-writes : (n c q p a u : ℕ) → Ends (λ (t : Plan). length (t .writes) ≤ 23) (elsewhereScript n c q p a u)
 unfolding elsewhereScript
@@ -135,17 +145,17 @@ elsewhere-writes n c q p a u =
 
 -- a resize: 23 words, beside what it moves
 pub resize-writes : (n c q p a : ℕ) → Ends (λ (t : Plan). length (t .writes) ≤ 23) (resizeScript n c q p a)
-unfolding resizeScript moveScript downScript
+unfolding resizeScript growScript stretchScript moveScript downScript
 resize-writes n c q p a =
     ends-any _ (seeOwner q) _ λ o.
     eq-case (Ends (λ (t : Plan). length (t .writes) ≤ 23)) (keeps (q - 2 * o .at) p) (o .grains) _ _ (λ _. omega arith) λ _.
     ends-any _ (seeBehind n c (o .at + o .grains)) _ λ b.
     le-case (Ends (λ (t : Plan). length (t .writes) ≤ 23)) (keeps (q - 2 * o .at) p) (o .grains + roomOf b) _ _
-      (λ _. ends-bind (λ w. length w ≤ 10) _ (leaveScript n c (leaves b) (o .at) (o .grains + roomOf b) (keeps (q - 2 * o .at) p)) _
-        (leave-length n c (leaves b) (o .at) (o .grains + roomOf b) (keeps (q - 2 * o .at) p) 2 (leaves-length b)) λ w h. omega arith)
-      (λ _. ends-any _ (seeBefore n c (o .at)) _ λ f.
-        eq-case (Ends (λ (t : Plan). length (t .writes) ≤ 23)) (roomOf f) 0 _ _ (λ _. elsewhere-writes n c q p a _) λ _.
-        le-case (Ends (λ (t : Plan). length (t .writes) ≤ 23)) (keeps (place a (o .at - roomOf f)) p) (roomOf f + (o .grains + roomOf b)) _ _
-          (λ _. ends-bind (λ w. length w ≤ 12) _ (leaveScript n c _ _ _ _) _ (leave-length n c _ _ _ _ 4 (both-length b (o .at - roomOf f) f)) λ w h.
-            rw (length-append, length-append) (omega (arith, pad-length (o .at - roomOf f) (place a (o .at - roomOf f)))))
-          (λ _. elsewhere-writes n c q p a _))
+    (λ _. ends-bind (λ w. length w ≤ 10) _ (leaveScript n c (leaves b) (o .at) (o .grains + roomOf b) (keeps (q - 2 * o .at) p)) _
+    (leave-length n c (leaves b) (o .at) (o .grains + roomOf b) (keeps (q - 2 * o .at) p) 2 (leaves-length b)) λ w h. omega arith)
+    (λ _. ends-any _ (seeBefore n c (o .at)) _ λ f.
+    eq-case (Ends (λ (t : Plan). length (t .writes) ≤ 23)) (roomOf f) 0 _ _ (λ _. elsewhere-writes n c q p a _) λ _.
+    le-case (Ends (λ (t : Plan). length (t .writes) ≤ 23)) (keeps (place a (o .at - roomOf f)) p) (roomOf f + (o .grains + roomOf b)) _ _
+    (λ _. ends-bind (λ w. length w ≤ 12) _ (leaveScript n c _ _ _ _) _ (leave-length n c _ _ _ _ 4 (both-length b (o .at - roomOf f) f)) λ w h.
+    rw (length-append, length-append) (omega (arith, pad-length (o .at - roomOf f) (place a (o .at - roomOf f)))))
+    (λ _. elsewhere-writes n c q p a _))

@@ -21,6 +21,7 @@ pub mod Determined
 pub mod Fresh
 pub mod Skips
 pub mod ReturnSound
+pub mod ResizeSound
 pub mod Founded
 pub mod Laying
 pub mod RegionTable

@@ -104,20 +104,28 @@ downScript n c q p a u z t w = ifLe (keeps (place a z) p) t (do
   done (record { answer = 2 * z + place a z; moved = u; writes = v ++ (padWrites z (place a z) ++ ((Live at q ≔ 0) ∷ (Live at 2 * z + place a z ≔ 1) ∷ [])) }))
     (elsewhereScript n c q p a u)
 
--- steps 1 and 2, or else 3, or else 4
-unfoldable pub moveScript : ℕ → ℕ → ℕ → ℕ → ℕ → Owner → Beside → Script Plan
-moveScript n c q p a o b = do
-  f ← seeBefore n c (o .at)
-  ifEq (roomOf f) 0 (elsewhereScript n c q p a (2 * (o .at + o .grains) - q))
-      (downScript n c q p a (2 * (o .at + o .grains) - q) (o .at - roomOf f) (roomOf f + (o .grains + roomOf b)) (bothLeave b (o .at - roomOf f) f))
+-- step 3, where a free block stands before it; else step 4. The block of s grains at x, and what stands behind it
+unfoldable pub moveScript : ℕ → ℕ → ℕ → ℕ → ℕ → ℕ → ℕ → Beside → Script Plan
+moveScript n c q p a x s b = do
+  f ← seeBefore n c x
+  ifEq (roomOf f) 0 (elsewhereScript n c q p a (2 * (x + s) - q))
+      (downScript n c q p a (2 * (x + s) - q) (x - roomOf f) (roomOf f + (s + roomOf b)) (bothLeave b (x - roomOf f) f))
+
+-- steps 1 and 2, in place: the payload's place in its block is d
+unfoldable pub stretchScript : ℕ → ℕ → ℕ → ℕ → ℕ → ℕ → ℕ → ℕ → Beside → Script Plan
+stretchScript n c q p a d x s b = ifLe (keeps d p) (s + roomOf b)
+    (do
+      w ← leaveScript n c (leaves b) x (s + roomOf b) (keeps d p)
+      done (record { answer = q; writes = w; moved = 0 }))
+    (moveScript n c q p a x s b)
+
+-- nothing to do, where the block keeps its size
+unfoldable pub growScript : ℕ → ℕ → ℕ → ℕ → ℕ → ℕ → ℕ → ℕ → Script Plan
+growScript n c q p a d x s = ifEq (keeps d p) s (done (record { answer = q; writes = []; moved = 0 })) (do
+  b ← seeBehind n c (x + s)
+  stretchScript n c q p a d x s b)
 
 unfoldable pub resizeScript : ℕ → ℕ → ℕ → ℕ → ℕ → Script Plan
 resizeScript n c q p a = do
   o ← seeOwner q
-  ifEq (keeps (q - 2 * o .at) p) (o .grains) (done (record { answer = q; writes = []; moved = 0 })) (do
-    b ← seeBehind n c (o .at + o .grains)
-    ifLe (keeps (q - 2 * o .at) p) (o .grains + roomOf b)
-        (do
-          w ← leaveScript n c (leaves b) (o .at) (o .grains + roomOf b) (keeps (q - 2 * o .at) p)
-          done (record { answer = q; writes = w; moved = 0 }))
-        (moveScript n c q p a o b))
+  growScript n c q p a (q - 2 * o .at) (o .at) (o .grains)

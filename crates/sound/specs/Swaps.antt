@@ -104,6 +104,41 @@ module _ (m u : Memory) (A B : List Block) (a : Lively m A) where
         (λ (v : BlockAt (j .0) (used (j .1) (j .2)) 0 B). (j .0, j .1, j .2, v, j .4)) (w .forth (j .0) (used (j .1) (j .2)) tt (j .3));
   }
 
+-- a payload moves, from one block to another
+pub lively-move : (m u : Memory) (A B : List Block) (x s d z k e : ℕ) → Lively m A → Ordered out A → Swaps A B x (used s d) z (used k e) → BlockAt x (used s d) 0 A → (BlockAt x (used s d) 0 B → ⊥)
+    → BlockAt z (used k e) 0 B → u Live ≡ upd (upd (m Live) (2 * x + d) 0) (2 * z + e) 1 → Lively u B
+lively-move m u A B x s d z k e a o w h n g q = record { set = set; real = real }
+  where
+    at : (i : ℕ) → u Live i ≡ upd (upd (m Live) (2 * x + d) 0) (2 * z + e) 1 i
+    at i = ap (λ (v : ℕ → ℕ). v i) q
+
+    kept : (y t c : ℕ) → BlockAt y (used t c) 0 B → BlockAt y (used t c) 0 A → 2 * y + c ≡ 2 * x + d → ⊥
+    kept y t c b i p = let j = owner-unique A y t c x s d o i h p in n (subst (λ (v : Block). BlockAt x v 0 B) (j .1) (subst (λ (v : ℕ). BlockAt v (used t c) 0 B) (j .0) b))
+
+    set : (y t c : ℕ) → BlockAt y (used t c) 0 B → u Live (2 * y + c) ≡ 1
+    set y t c b = at (2 * y + c) ∙ ⊎-elim
+        (λ (j : 2 * y + c ≡ 2 * z + e). upd-same _ (2 * z + e) 1 (2 * y + c) j)
+        (λ (j : 2 * y + c ≡ 2 * z + e → ⊥). upd-other _ (2 * z + e) 1 (2 * y + c) j ∙ ⊎-elim
+        (λ (i : (y ≡ z) × (used k e ≡ used t c)). absurd (j (omega (arith, i .0, used-place (i .1)))))
+        (λ (i : BlockAt y (used t c) 0 A). upd-other (m Live) (2 * x + d) 0 (2 * y + c) (kept y t c b i) ∙ a .set y t c i) (w .back y (used t c) tt b))
+        (same? (2 * y + c) (2 * z + e))
+
+    real : (i : ℕ) → u Live i ≡ 1 → (y : ℕ) × (t : ℕ) × (c : ℕ) × BlockAt y (used t c) 0 B × (i ≡ 2 * y + c)
+    real i p = ⊎-elim
+        (λ (j : i ≡ 2 * z + e). (z, k, e, g, j))
+        (λ (j : i ≡ 2 * z + e → ⊥). ⊎-elim
+        (λ (v : i ≡ 2 * x + d). absurd (omega (arith, sym (upd-other _ (2 * z + e) 1 i j ∙ upd-same (m Live) (2 * x + d) 0 i v) ∙ sym (at i) ∙ p)))
+        (λ (v : i ≡ 2 * x + d → ⊥). let b = a .real i (sym (upd-other _ (2 * z + e) 1 i j ∙ upd-other (m Live) (2 * x + d) 0 i v) ∙ sym (at i) ∙ p) in (
+          b .0,
+          b .1,
+          b .2,
+          ⊎-elim (λ (t : (b .0 ≡ x) × (used s d ≡ used (b .1) (b .2))). absurd (v (omega (arith, t .0, used-place (t .1), b .4)))) (λ (t : BlockAt (b .0) (used (b .1) (b .2)) 0 B). t)
+              (w .forth (b .0) (used (b .1) (b .2)) tt (b .3)),
+          b .4,
+        ))
+        (same? i (2 * x + d)))
+        (same? i (2 * z + e))
+
 -- ---- the words before payloads
 
 -- such a word lies in its block, so no free block starts there
