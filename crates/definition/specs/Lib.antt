@@ -14,3 +14,5 @@ pub mod Placing
 pub mod Kept
 pub mod Promises
 pub mod NotLive
+pub mod Gaps
+pub mod Regions

@@ -22,3 +22,7 @@ pub mod Fresh
 pub mod Skips
 pub mod ReturnSound
 pub mod ResizeSound
+pub mod Founded
+pub mod Laying
+pub mod RegionTable
+pub mod RegionSound

@@ -1,0 +1,89 @@
+-- `Founded`: Sound without the table of regions. So stands the memory while a region's pieces are laid: its blocks and
+-- lists are in order, but the table doesn't know the region yet.
+use Prim.Native.Nat.{ℕ, suc, _+_, _-_, _*_, _/_, _%_, _≤_, _<_}
+use native.Mathlib.Omega.{arith}
+use mathlib.Core.Path.{_≡_, refl, ap, sym, _∙_, subst}
+use mathlib.Core.List.{List, [], _∷_}
+use mathlib.Core.Logic.{inl}
+use Rattle.choice.specs.Choice.{ifEq, eq-yes, eq-no}
+use Rattle.definition.specs.Blocks.{Block, free, used, total}
+use Rattle.definition.specs.Lists.{Lists}
+use Rattle.definition.specs.Calls.{Heap}
+use Rattle.definition.specs.Order.{out, some, Ordered, BlockAt, at-whole, Apart, same, before, behind, apart}
+use Rattle.definition.specs.Members.{Mem}
+use Rattle.definition.specs.Moves.{Sane}
+use Rattle.script.specs.Memory.{Memory, Size, Before, Next, Prev, Mark, none, root}
+use Rattle.script.specs.Script.{Script, Gives, run, gives-bind, gives-get, gives-eq, gives-done, mustEq, _>>=_, _>>_}
+use Rattle.sound.specs.Row.{Row}
+use Rattle.sound.specs.Chain.{Chain, Real}
+use Rattle.sound.specs.Strung.{Strung, Marked}
+use Rattle.sound.specs.Sound.{Lively, Padded, Sound}
+use Rattle.sound.specs.Checks.{mustGrain, mustLead, seeHead}
+use Rattle.sound.specs.Swaps.{pad-inside}
+use Rattle.sound.specs.Settle.{at-end}
+use Rattle.sound.specs.Seen.{gives-grain, gives-lead}
+
+pub record Founded (n c : ℕ) (m : Memory) (xs : List Block) (f : Lists) : Type 0 where
+  pub heap : Sane c xs f
+  pub whole : total xs ≡ n
+  pub small : n ≤ none
+  pub row : Row (m Size) (m Before) 0 none xs
+  pub strung : Strung m f
+  pub lively : Lively m xs
+  pub padded : Padded m xs
+
+-- every sound memory is founded
+pub sound-founded : (n c : ℕ) (m : Memory) (h : Heap) → Sound n c m h → Founded n c m (h .blocks) (h .lists)
+sound-founded n c m h b = record { heap = b .heap; whole = b .whole; small = b .small; row = b .row; strung = b .strung; lively = b .lively; padded = b .padded }
+
+-- one block at one place
+pub one-block : (y : ℕ) (b d : Block) (xs : List Block) → Ordered out xs → BlockAt y b 0 xs → BlockAt y d 0 xs → b ≡ d
+one-block y b d xs o h k = go (apart y y 0 b d xs h k)
+  where
+    go : Apart y b y d → b ≡ d
+    go (same e q) = q
+    go (before e) = absurd (omega (arith, some b (at-whole y b 0 out xs o h)))
+    go (behind e) = absurd (omega (arith, some d (at-whole y d 0 out xs o k)))
+
+-- ---- the head of a list is seen
+
+-- what seeHead checks
+abbrev headCheck : ℕ → ℕ → ℕ → Script (Unit {0})
+headCheck n h b = ifEq h none (mustEq b 0) (mustGrain n h >> (mustEq b 1 >> mustLead Prev h none))
+
+-- for that the lists are strung, and their members are grains
+pub head-strung : (n : ℕ) (m : Memory) (f : Lists) (k : ℕ) → n ≤ none → Strung m f → ((y : ℕ) → Mem y (f k) → y < n) → Gives m (seeHead n k) (m Next (root k))
+unfolding seeHead
+head-strung n m f k small s inside = gives-get m Next (root k) _ refl (gives-get m Mark k _ refl
+    (gives-bind m (headCheck n (m Next (root k)) (m Mark k)) _ (go (f k) (s .links k) (s .marks k) inside) (gives-done m _)))
+  where
+    go : (l : List ℕ) → Chain (m Next) (m Prev) (root k) none l → Marked (m Mark k) l → ((y : ℕ) → Mem y l → y < n)
+        → Gives m (headCheck n (m Next (root k)) (m Mark k)) (tt {0})
+    go [] c e b = ap (run m) (eq-yes (m Next (root k)) none _ _ c) ∙ gives-eq m 5 (m Mark k) 0 e
+    go (y ∷ l) c e b =
+        let i : m Next (root k) < n = omega (arith, c .0, b y (inl refl)) in
+        ap (run m) (eq-no (m Next (root k)) none _ _ (λ q. omega arith))
+        ∙ gives-bind m (mustGrain n (m Next (root k))) _ (gives-grain m n (m Next (root k)) i)
+        (gives-bind m (mustEq (m Mark k) 1) _ (gives-eq m 5 (m Mark k) 1 e)
+        (gives-lead m Prev (m Next (root k)) none (ap (m Prev) (c .0) ∙ c .1)))
+
+module _ (n c : ℕ) (m : Memory) (xs : List Block) (f : Lists) (o : Founded n c m xs f) where
+  -- a member of a list is a grain
+  member-inside : (k y : ℕ) → Mem y (f k) → y < n
+  member-inside k y i =
+      let t = o .heap .exact .there k y i in
+      omega (arith, o .whole, at-end y (free (t .0)) 0 xs (t .1), at-whole y (free (t .0)) 0 out xs (o .heap .order) (t .1))
+
+  -- so no member is none
+  pub founded-real : Real f
+  founded-real k y i = omega (arith, member-inside k y i, o .small)
+
+  -- and the head of each list is seen
+  pub head-founded : (k : ℕ) → Gives m (seeHead n k) (m Next (root k))
+  head-founded k = head-strung n m f k (o .small) (o .strung) (member-inside k)
+
+  -- the word before a payload is at a grain too
+  pub pad-grain : (y s d : ℕ) → BlockAt y (used s d) 0 xs → d % 2 ≡ 0 → y + d / 2 - 1 ≡ none → ⊥
+  pad-grain y s d b e q =
+      let w = at-whole y (used s d) 0 out xs (o .heap .order) b in
+      omega (arith, pad-inside y s d (w .1) e, at-end y (used s d) 0 xs b, o .whole, o .small)
