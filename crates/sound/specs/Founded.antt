@@ -9,16 +9,16 @@ use Rattle.choice.specs.Choice.{ifEq, eq-yes, eq-no}
 use Rattle.definition.specs.Blocks.{Block, free, used, total}
 use Rattle.definition.specs.Lists.{Lists}
 use Rattle.definition.specs.Calls.{Heap}
-use Rattle.definition.specs.Order.{out, some, Ordered, BlockAt, at-whole, Apart, same, before, behind, apart}
-use Rattle.definition.specs.Members.{Mem}
-use Rattle.definition.specs.Moves.{Sane}
+use Rattle.invariants.specs.Order.{out, some, Ordered, BlockAt, at-whole, Apart, same, before, behind, apart}
+use Rattle.invariants.specs.Members.{Mem}
+use Rattle.invariants.specs.Moves.{Sane}
 use Rattle.script.specs.Memory.{Memory, Size, Before, Next, Prev, Mark, none, root}
 use Rattle.script.specs.Script.{Script, Gives, run, gives-bind, gives-get, gives-eq, gives-done, mustEq, _>>=_, _>>_}
 use Rattle.sound.specs.Row.{Row}
 use Rattle.sound.specs.Chain.{Chain, Real}
 use Rattle.sound.specs.Strung.{Strung, Marked}
 use Rattle.sound.specs.Sound.{Lively, Padded, Sound}
-use Rattle.sound.specs.Checks.{mustGrain, mustLead, seeHead}
+use Rattle.plans.specs.Checks.{mustGrain, mustLead, seeHead}
 use Rattle.sound.specs.Swaps.{pad-inside}
 use Rattle.sound.specs.Settle.{at-end}
 use Rattle.sound.specs.Seen.{gives-grain, gives-lead}

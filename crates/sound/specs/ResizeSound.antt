@@ -9,20 +9,20 @@ use Rattle.class.specs.Class.{listOf, list-small}
 use Rattle.definition.specs.Blocks.{Block, free, used, last, gap, size, total, _⟨⟩_, room, past, Place, find, payload}
 use Rattle.definition.specs.Lists.{Lists, skip}
 use Rattle.definition.specs.Calls.{Heap, Refusal, notLive, Answer, refused, granted, leave, place, keeps, take, giveBack, answering, backAfter, elsewhere, down, resizeAt, resize}
-use Rattle.definition.specs.Order.{Side, idle, Inside, Whole, Ordered, OrderedL, order-split, BlockAt, at-here, total-zip, apart, Apart, same, before, behind, stands-at, payload-at}
-use Rattle.definition.specs.Moves.{Sane, Ok}
-use Rattle.definition.specs.Neighbours.{total-past, orderL-past, order-past, wider, swallow-behind, swallow, leave-ok}
-use Rattle.definition.specs.Placing.{Align, align-pos, place-some, place-inside, keeps-holds, keeps-some}
-use Rattle.definition.specs.Kept.{Solid, kept-down, kept-down-back, kept-down-split, kept-down-split-back, kept-stretch, kept-stretch-back, kept-stretch-split, kept-stretch-split-back}
-use Rattle.definition.specs.Promises.{leave-here, leave-only}
-use Rattle.definition.specs.NotLive.{not-live-resize}
+use Rattle.invariants.specs.Order.{Side, idle, Inside, Whole, Ordered, OrderedL, order-split, BlockAt, at-here, total-zip, apart, Apart, same, before, behind, stands-at, payload-at}
+use Rattle.invariants.specs.Moves.{Sane, Ok}
+use Rattle.invariants.specs.Neighbours.{total-past, orderL-past, order-past, wider, swallow-behind, swallow, leave-ok}
+use Rattle.invariants.specs.Placing.{Align, align-pos, place-some, place-inside, keeps-holds, keeps-some}
+use Rattle.invariants.specs.Kept.{Solid, kept-down, kept-down-back, kept-down-split, kept-down-split-back, kept-stretch, kept-stretch-back, kept-stretch-split, kept-stretch-split-back}
+use Rattle.invariants.specs.Promises.{leave-here, leave-only}
+use Rattle.invariants.specs.NotLive.{not-live-resize}
 use Rattle.script.specs.Memory.{Memory, Size, Before, Next, Prev, Live, none, root, Write, _at_≔_, apply, apply-append}
 use Rattle.script.specs.Script.{Script, Result, ok, no, run, done, Gives, goes, halts, gives-bind, gives-done, over, over-run, _>>=_}
 use Rattle.sound.specs.Sound.{Sound}
-use Rattle.sound.specs.Checks.{Owner, Beside, seeHead, seeOwner, seeBehind, seeBefore}
-use Rattle.sound.specs.Plans.{Plan, roomOf, leaves, bothLeave, padWrites, leaveScript, takeScript, giveBackScript, elsewhereScript, downScript, moveScript, stretchScript, growScript, resizeScript}
+use Rattle.plans.specs.Checks.{Owner, Beside, seeHead, seeOwner, seeBehind, seeBefore}
+use Rattle.plans.specs.Plans.{Plan, roomOf, leaves, bothLeave, padWrites, leaveScript, takeScript, giveBackScript, elsewhereScript, downScript, moveScript, stretchScript, growScript, resizeScript}
 use Rattle.sound.specs.Meets.{number, Grants, Meets}
-use Rattle.sound.specs.Constant.{back-reads}
+use Rattle.plans.specs.Constant.{back-reads}
 use Rattle.sound.specs.Core.{core-behind, core-both}
 use Rattle.sound.specs.Leave.{leaveWrites, leave-gives, leave-memory}
 use Rattle.sound.specs.Swaps.{Swaps, lively-move}

@@ -11,18 +11,17 @@ use Rattle.class.specs.Class.{listOf}
 use Rattle.definition.specs.Blocks.{Block, free, used, gap, size, total, _⟨⟩_, Place, room, past}
 use Rattle.definition.specs.Lists.{Lists, push, skip}
 use Rattle.definition.specs.Calls.{Heap, granted, join, giveBackAt, giveBack}
-use Rattle.definition.specs.Order.{out, busy, idle, Inside, Ordered, OrderedL, order-split, total-zip, BlockAt, at-here, stands-at, Apart, same, before, behind, apart, at-whole, payload-at}
-use Rattle.definition.specs.Moves.{Ok, free-used}
-use Rattle.definition.specs.Neighbours.{total-past, orderL-past, order-past, join-ok}
-use Rattle.definition.specs.Kept.{kept-join, kept-join-back}
-use Rattle.definition.specs.NotLive.{not-live-back}
+use Rattle.invariants.specs.Order.{out, busy, idle, Inside, Ordered, OrderedL, order-split, total-zip, BlockAt, at-here, stands-at, Apart, same, before, behind, apart, at-whole, payload-at}
+use Rattle.invariants.specs.Moves.{Ok, free-used}
+use Rattle.invariants.specs.Neighbours.{total-past, orderL-past, order-past, join-ok}
+use Rattle.invariants.specs.Kept.{kept-join, kept-join-back}
+use Rattle.invariants.specs.NotLive.{not-live-back}
 use Rattle.script.specs.Memory.{Memory, Size, Before, Next, Prev, Mark, Live, Table, none, root, freeWord, Write, apply, latest, apply-is, apply-append, apply-untouched}
 use Rattle.script.specs.Script.{Gives, gives-bind, gives-done, gives-le, halts}
 use Rattle.sound.specs.Row.{Row}
-use Rattle.sound.specs.Strung.{pushWrites}
 use Rattle.sound.specs.Sound.{Sound, Lively, Padded, Given}
-use Rattle.sound.specs.Checks.{mustList, seeHead, seeOwner, seeBehind, seeBefore}
-use Rattle.sound.specs.Plans.{Plan, roomOf, bothLeave, freeWrites, joinScript, giveBackScript}
+use Rattle.plans.specs.Checks.{mustList, seeHead, seeOwner, seeBehind, seeBefore}
+use Rattle.plans.specs.Plans.{Plan, roomOf, bothLeave, freeWrites, joinScript, giveBackScript}
 use Rattle.sound.specs.Meets.{Grants, Meets}
 use Rattle.sound.specs.Core.{core-both, row-free}
 use Rattle.sound.specs.Relists.{Relists, relists-push, relists-then}
@@ -31,6 +30,7 @@ use Rattle.sound.specs.Swaps.{Swaps, lively-drop, pad-inside, pad-free, 
 use Rattle.sound.specs.Seen.{not-owner, head-seen}
 use Rattle.sound.specs.SeenBeside.{Here, beside, room-seen, owner-seen, behind-seen, before-seen, merged-list}
 use Rattle.sound.specs.Skips.{skips-both, fewer-both, not-in-both}
+use Rattle.plans.specs.Links.{pushWrites}
 
 -- ---- the plan
 

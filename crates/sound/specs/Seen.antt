@@ -9,16 +9,17 @@ use Rattle.choice.specs.Choice.{ifEq, eq-yes, eq-no, eq-case}
 use Rattle.class.specs.Class.{listOf, list-small}
 use Rattle.definition.specs.Blocks.{Block, free, used, last, gap, total, _⟨⟩_}
 use Rattle.definition.specs.Calls.{Heap}
-use Rattle.definition.specs.Order.{idle, Ordered, order-split, total-zip, BlockAt, stands-at}
-use Rattle.definition.specs.Members.{Mem}
-use Rattle.definition.specs.Pieces.{free-listed}
+use Rattle.invariants.specs.Order.{idle, Ordered, order-split, total-zip, BlockAt, stands-at}
+use Rattle.invariants.specs.Members.{Mem}
+use Rattle.invariants.specs.Pieces.{free-listed}
 use Rattle.script.specs.Memory.{Memory, Size, Before, Next, Prev, Mark, Live, none, root, freeWord, usedWord, lastWord}
 use Rattle.script.specs.Script.{Script, read, _>>=_, _>>_, run, no, unlessEq, mustEq, mustDiffer, Gives, gives-bind, gives-get, gives-eq, gives-le, gives-differ, gives-done, reads, halts, halts-eq}
 use Rattle.sound.specs.Row.{Row, row-split}
-use Rattle.sound.specs.Chain.{Chain, Real, node, next-mem, prev-mem, node-leads, next-back}
+use Rattle.sound.specs.Chain.{Chain, Real, next-mem, prev-mem, node-leads, next-back}
 use Rattle.sound.specs.Strung.{Marked, mark-of}
 use Rattle.sound.specs.Sound.{Sound}
-use Rattle.sound.specs.Checks.{Word, isFree, isUsed, isLast, wordOf, mustGrain, mustLead, mustBack, asBusy, asFree, asUsed, mustBusy, mustFree, mustUsed, seePrev, seeEntry, seeHead, seeOwner}
+use Rattle.plans.specs.Checks.{Word, isFree, isUsed, isLast, wordOf, mustGrain, mustLead, mustBack, asBusy, asFree, asUsed, mustBusy, mustFree, mustUsed, seePrev, seeEntry, seeHead, seeOwner}
+use Rattle.plans.specs.Links.{node}
 
 -- ---- what the three size words say
 

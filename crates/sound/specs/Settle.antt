@@ -8,9 +8,9 @@ use Rattle.choice.specs.Choice.{eq-case}
 use Rattle.definition.specs.Blocks.{Block, free, used, last, gap, size, total, _⟨⟩_}
 use Rattle.definition.specs.Lists.{Lists}
 use Rattle.definition.specs.Calls.{Heap, leave}
-use Rattle.definition.specs.Order.{out, Whole, BlockAt, total-zip, apart, Apart, same, before, behind, at-whole}
-use Rattle.definition.specs.Moves.{Sane, Ok}
-use Rattle.definition.specs.Kept.{Solid}
+use Rattle.invariants.specs.Order.{out, Whole, BlockAt, total-zip, apart, Apart, same, before, behind, at-whole}
+use Rattle.invariants.specs.Moves.{Sane, Ok}
+use Rattle.invariants.specs.Kept.{Solid}
 use Rattle.script.specs.Memory.{Memory, Prev, Table, none, Write}
 use Rattle.sound.specs.Sound.{Sound, Lively, Padded, Given}
 use Rattle.sound.specs.Relists.{NotIn}

@@ -8,16 +8,16 @@ use mathlib.Core.List.{List, [], _∷_}
 use Rattle.class.specs.Class.{listOf}
 use Rattle.definition.specs.Blocks.{Block, free, used, last, gap, total, _⟨⟩_, room, past}
 use Rattle.definition.specs.Lists.{Lists, skip}
-use Rattle.definition.specs.Order.{out, BlockAt, at-here, Apart, same, before, behind, apart, at-whole}
-use Rattle.definition.specs.Members.{Mem, Apiece, mem-drop}
-use Rattle.definition.specs.Moves.{Sane, free-used}
-use Rattle.definition.specs.Neighbours.{swallow, swallow-behind}
+use Rattle.invariants.specs.Order.{out, BlockAt, at-here, Apart, same, before, behind, apart, at-whole}
+use Rattle.invariants.specs.Members.{Mem, Apiece, mem-drop}
+use Rattle.invariants.specs.Moves.{Sane, free-used}
+use Rattle.invariants.specs.Neighbours.{swallow, swallow-behind}
 use Rattle.script.specs.Memory.{Memory, Next, Prev, Write, apply, apply-is}
 use Rattle.sound.specs.Chain.{Real}
 use Rattle.sound.specs.Strung.{Strung}
 use Rattle.sound.specs.Sound.{Sound}
-use Rattle.sound.specs.Checks.{Beside}
-use Rattle.sound.specs.Plans.{leaves, afterwards, bothLeave}
+use Rattle.plans.specs.Checks.{Beside}
+use Rattle.plans.specs.Plans.{leaves, afterwards, bothLeave}
 use Rattle.sound.specs.Relists.{Relists, NotIn, Fewer, relists-none, relists-drop, relists-then}
 use Rattle.sound.specs.Seen.{lists-real}
 use Rattle.sound.specs.SeenBeside.{Here, beside}

@@ -8,9 +8,9 @@ use mathlib.Core.Logic.{_⊎_, inl, inr, ⊎-elim}
 use Rattle.choice.specs.Choice.{upd, upd-same, upd-other, same?}
 use Rattle.definition.specs.Blocks.{Block, free, used, last, gap, size, total, _⟨⟩_}
 use Rattle.definition.specs.Lists.{Lists}
-use Rattle.definition.specs.Order.{Side, out, Ordered, Whole, Inside, some, BlockAt, Apart, same, before, behind, apart, at-whole}
-use Rattle.definition.specs.Moves.{Sane}
-use Rattle.definition.specs.Kept.{Solid}
+use Rattle.invariants.specs.Order.{Side, out, Ordered, Whole, Inside, some, BlockAt, Apart, same, before, behind, apart, at-whole}
+use Rattle.invariants.specs.Moves.{Sane}
+use Rattle.invariants.specs.Kept.{Solid}
 use Rattle.script.specs.Memory.{Memory, Prev, Live, Table, none}
 use Rattle.sound.specs.Sound.{Lively, Padded, InTable, Given}
 use Rattle.sound.specs.Relists.{NotIn}

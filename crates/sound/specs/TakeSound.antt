@@ -10,19 +10,19 @@ use Rattle.class.specs.Class.{listOf, startOf, list-small}
 use Rattle.definition.specs.Blocks.{Block, free, used, last, gap, size, total, _⟨⟩_}
 use Rattle.definition.specs.Lists.{Lists, drop, push, Found, nothing, found, search}
 use Rattle.definition.specs.Calls.{Heap, noList, Answer, refused, granted, leave, wanted, place, keeps, take, takeAt}
-use Rattle.definition.specs.Order.{Ordered, OrderedL, order-split, BlockAt, at-here, at-low, total-zip, apart, Apart, same, before, behind, at-whole}
-use Rattle.definition.specs.Members.{Mem, Apiece, mem-drop}
-use Rattle.definition.specs.Moves.{Sane, Ok, occupy}
-use Rattle.definition.specs.Placing.{Align, align-pos, place-some, keeps-some, keeps-wanted}
-use Rattle.definition.specs.Kept.{Solid, solid-free}
-use Rattle.definition.specs.Promises.{Finds, finds, Took, take-found, sought, search-empty, leave-here, leave-keeps, leave-only}
+use Rattle.invariants.specs.Order.{Ordered, OrderedL, order-split, BlockAt, at-here, at-low, total-zip, apart, Apart, same, before, behind, at-whole}
+use Rattle.invariants.specs.Members.{Mem, Apiece, mem-drop}
+use Rattle.invariants.specs.Moves.{Sane, Ok, occupy}
+use Rattle.invariants.specs.Placing.{Align, align-pos, place-some, keeps-some, keeps-wanted}
+use Rattle.invariants.specs.Kept.{Solid, solid-free}
+use Rattle.invariants.specs.Promises.{Finds, finds, Took, take-found, sought, search-empty, leave-here, leave-keeps, leave-only}
 use Rattle.script.specs.Memory.{Memory, Size, Before, Next, Prev, Mark, Live, Table, none, root, Write, _at_≔_, apply}
 use Rattle.script.specs.Script.{Script, run, no, done, Gives, gives-bind, gives-get, gives-done, gives-eq, gives-le, goes, halts, halts-le, searches, unlessLe, mustEq, get}
 use Rattle.sound.specs.Chain.{Real}
-use Rattle.sound.specs.Strung.{Strung, Marked, unlinkWrites}
+use Rattle.sound.specs.Strung.{Strung, Marked}
 use Rattle.sound.specs.Sound.{Sound}
-use Rattle.sound.specs.Checks.{mustGrain, mustFree, mustLead, mustBack, mustBusy}
-use Rattle.sound.specs.Plans.{Plan, takeScript, leaveScript, padWrites}
+use Rattle.plans.specs.Checks.{mustGrain, mustFree, mustLead, mustBack, mustBusy}
+use Rattle.plans.specs.Plans.{Plan, takeScript, leaveScript, padWrites}
 use Rattle.sound.specs.Meets.{number, Grants, Meets}
 use Rattle.sound.specs.Core.{core-free}
 use Rattle.sound.specs.Relists.{Relists, NotIn, Fewer, relists-drop}
@@ -32,6 +32,7 @@ use Rattle.sound.specs.Finish.{Finished, finish-memory}
 use Rattle.sound.specs.Settle.{settle, leave-total}
 use Rattle.sound.specs.Seen.{FreeFacts, free-facts, member-inside, lists-real, head-seen, free-seen, head-leads, head-prev, head-back, gives-lead, gives-grain}
 use Rattle.sound.specs.SeenBeside.{Here}
+use Rattle.plans.specs.Links.{unlinkWrites}
 
 -- ---- the search of the map finds the list that the definition finds
 
