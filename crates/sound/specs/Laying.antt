@@ -9,7 +9,7 @@ use Rattle.class.specs.Class.{listOf}
 use Rattle.definition.specs.Blocks.{Block, free, used, last, gap, size, total, _⟨⟩_, gaps}
 use Rattle.definition.specs.Lists.{Lists, push}
 use Rattle.definition.specs.Calls.{Laid, lay}
-use Rattle.invariants.specs.Order.{out, sideL, Ordered, order-split, total-zip, BlockAt, LeftAt, at-split, at-join}
+use Rattle.invariants.specs.Order.{out, sideL, Ordered, order-split, total-zip, BlockAt, LeftAt, at-split, at-join, one-block}
 use Rattle.invariants.specs.Moves.{free-used, free-gap}
 use Rattle.invariants.specs.Gaps.{total-gaps, gaps-add, gaps-zip, gaps-at, gaps-behind, gaps-cases, gap-used}
 use Rattle.invariants.specs.Regions.{piece-ok, two-grains, gap-out}
@@ -21,7 +21,7 @@ use Rattle.plans.specs.Checks.{seeHead, few-head}
 use Rattle.plans.specs.RegionPlan.{pieceWrites, Layout, layScript}
 use Rattle.sound.specs.Relists.{Relists, relists-push}
 use Rattle.sound.specs.Swaps.{pad-free}
-use Rattle.sound.specs.Founded.{Founded, one-block, founded-real, head-founded, pad-grain}
+use Rattle.sound.specs.Founded.{Founded, founded-real, head-founded, pad-grain}
 use Rattle.plans.specs.Links.{pushWrites}
 
 -- ---- what stands before a piece

@@ -9,7 +9,7 @@ use Rattle.choice.specs.Choice.{ifEq, eq-no, le?, upd-same, upd-other}
 use Rattle.definition.specs.Blocks.{Block, free, used, last, gap, total, _⟨⟩_, gaps}
 use Rattle.definition.specs.Lists.{Lists}
 use Rattle.definition.specs.Calls.{Heap, lay, insert, append}
-use Rattle.invariants.specs.Order.{out, busy, idle, sideL, Ordered, order-split, BlockAt, at-here}
+use Rattle.invariants.specs.Order.{out, busy, idle, sideL, Ordered, order-split, BlockAt, at-here, one-block}
 use Rattle.invariants.specs.Gaps.{Spot, gaps-spot, spot-gap, spot-inside, gap-last}
 use Rattle.invariants.specs.Regions.{laidOut, gap-out, insert-spot, insert-none, append-spot, append-alone, append-none}
 use Rattle.script.specs.Memory.{Memory, Table, Write, _at_≔_, apply, apply-append, apply-untouched}
@@ -18,7 +18,7 @@ use Rattle.sound.specs.Sound.{InTable, Given, Sound}
 use Rattle.plans.specs.Plans.{Plan}
 use Rattle.plans.specs.RegionPlan.{Looked, seeRegions, Layout, layScript, regionScript}
 use Rattle.sound.specs.Meets.{Meets, Grants}
-use Rattle.sound.specs.Founded.{Founded, sound-founded, one-block}
+use Rattle.sound.specs.Founded.{Founded, sound-founded}
 use Rattle.sound.specs.Laying.{lays}
 use Rattle.sound.specs.RegionTable.{firstOf, endOf, Overlap, Passed, look, Longer, given-more, filled}
 

@@ -33,6 +33,7 @@ use Rattle.sound.specs.SeenBeside.{Here, beside, room-seen, behind-seen,
 use Rattle.sound.specs.Skips.{skips-behind, fewer-behind, skips-both, fewer-both, not-in-behind, not-in-both}
 use Rattle.sound.specs.TakeSound.{take-meets}
 use Rattle.sound.specs.ReturnSound.{giveBack-meets}
+use Rattle.invariants.specs.Gaps.{gap-used}
 
 -- ---- step 4: a take, and then a return
 
@@ -58,9 +59,6 @@ module _ (n c q p a u : ℕ) (m : Memory) where
   pub elsewhere-meets : (h : Heap) → Align a → Sound n c m h → Meets n c m (elsewhereScript n c q p a u) (elsewhere c h q p a)
   unfolding elsewhere
   elsewhere-meets h al o = take-part (take c h p a) (take-meets n c p a m h al o)
-
-used-gap : {s d : ℕ} → used s d ≡ gap → ⊥
-used-gap e = let z : _≡_ {A = ℕ} 0 1 = cc in omega arith
 
 -- what two scripts that run alike meet
 meets-as : (n c : ℕ) (m : Memory) (s t : Script Plan) (w : Answer) → run m s ≡ run m t → Meets n c m t w → Meets n c m s w
@@ -230,7 +228,7 @@ module _ (n c p a : ℕ) (m : Memory) (f : Lists) (l r : List Block) (s d : ℕ)
         (orderL-past l (i .0)) (order-past r (i .1 .2)) (omega (arith, whole .0)) k e down-some le (omega (arith, size-all, total-past l, total-past r, o .small))
         (λ y p q. not-in-both n c m f l r s d o y (omega arith) q) in
         let fin = finish-memory c m f (leaveWrites m w z t k) h z k e v lv down-ok down-here (refl, (refl, tt)) in
-        settle n c m _ (Here f l (used s d) r) h o down-ok (total l) (used s d) z k e down-swaps used-gap down-here (new-none k e down-some)
+        settle n c m _ (Here f l (used s d) r) h o down-ok (total l) (used s d) z k e down-swaps gap-used down-here (new-none k e down-some)
         (leave-total g (past l) (past r) t k e le ∙ omega (arith, total-zip l (used s d ∷ r), total-past l, total-past r)) v fin
         (lively-move m _ (l ⟨⟩ used s d ∷ r) (h .blocks) (total l) s d z k e (o .lively) (o .heap .order) down-swaps (at-here l r (used s d)) old-gone down-here (fin .live))
 

@@ -35,7 +35,8 @@ owner-unique A x s d y t e o a b q = go (apart x y 0 (used s d) (used t e) A a b
     go (before h) = absurd (omega (arith, u .1 .within, v .1 .some))
     go (behind h) = absurd (omega (arith, v .1 .within, u .1 .some))
 
-used-place : {s d t e : ℕ} → used s d ≡ used t e → d ≡ e
+-- the place in a used block
+pub used-place : {s d t e : ℕ} → used s d ≡ used t e → d ≡ e
 used-place p = cc
 
 -- ---- live bits

@@ -33,6 +33,7 @@ use Rattle.sound.specs.Settle.{settle, leave-total}
 use Rattle.sound.specs.Seen.{FreeFacts, free-facts, member-inside, lists-real, head-seen, free-seen, head-leads, head-prev, head-back, gives-lead, gives-grain}
 use Rattle.sound.specs.SeenBeside.{Here}
 use Rattle.plans.specs.Links.{unlinkWrites}
+use Rattle.invariants.specs.Gaps.{gap-free}
 
 -- ---- the search of the map finds the list that the definition finds
 
@@ -52,9 +53,6 @@ module _ (m : Memory) (f : Lists) (s : Strung m f) (i k : ℕ) where
       let d = finds f i k j y e in
       first-is (m Mark) i k j (d .low) (omega (arith, d .high))
       (λ u a b. unmarked (m Mark u) (f u) (d .first u a b) (s .marks u)) (λ _. marked (m Mark j) y (f j) (d .rest) (d .list) (s .marks j))
-
-free-gap : {s : ℕ} → free s ≡ gap → ⊥
-free-gap e = let z : _≡_ {A = ℕ} 0 1 = cc in omega arith
 
 -- ---- the block at the head of the list
 
@@ -161,7 +159,7 @@ module _ (n c p a : ℕ) (m : Memory) (f : Lists) (l r : List Block) (s : ℕ) (
       (i .0) (i .1 .2) (i .1 .1) k d keep-some keep-fits (omega (arith, o .small)) new in
       let fin = finish-memory c m f (leaveWrites m w x s k) g x k d ((Live at 2 * x + d ≔ 1) ∷ []) lv ok here (refl, tt) in
       let tt' : total (g .blocks) ≡ total (l ⟨⟩ free s ∷ r) = leave-total (drop (listOf s) x f) l r s k d keep-fits ∙ omega (arith, total-zip l (free s ∷ r)) in
-      settle n c m _ (Here f l (free s) r) g o ok x (free s) x k d swaps free-gap here not-yet tt' _ fin
+      settle n c m _ (Here f l (free s) r) g o ok x (free s) x k d swaps gap-free here not-yet tt' _ fin
       (lively-add m _ (l ⟨⟩ free s ∷ r) (g .blocks) (o .lively) x (free s) x k d (λ v. v) swaps here (fin .live))
 
   pub take-grants : Grants n c m (takeScript n c p a) (2 * total l + place a (total l)) (leave (drop (listOf s) (total l) f) l r s (keeps (place a (total l)) p) (place a (total l)))
