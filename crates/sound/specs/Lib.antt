@@ -23,5 +23,7 @@ pub mod RegionTable
 -- the calls
 pub mod TakeSound
 pub mod ReturnSound
+pub mod ResizeInPlace
+pub mod ResizeDown
 pub mod ResizeSound
 pub mod RegionSound

@@ -68,8 +68,6 @@ module _ (m : Memory) where
   unfolding seeOwner
   not-owner q n = reads m Live q _ refl ∙ halts m (unlessEq 3 (m Live q) 1) _ (halts-eq m 3 (m Live q) 1 n)
 
--- ---- free blocks
-
 -- ---- the head of a list is seen
 
 -- what seeHead checks
@@ -91,6 +89,8 @@ head-strung n m f k small s inside = gives-get m Next (root k) _ refl (gives-get
         ∙ gives-bind m (mustGrain n (m Next (root k))) _ (gives-grain m n (m Next (root k)) i)
         (gives-bind m (mustEq (m Mark k) 1) _ (gives-eq m 5 (m Mark k) 1 e)
         (gives-lead m Prev (m Next (root k)) none (ap (m Prev) (c .0) ∙ c .1)))
+
+-- ---- free blocks
 
 -- what a memory says of the free block of s grains at y, and of the block behind it
 pub record FreeFacts (n c : ℕ) (m : Memory) (y s : ℕ) : Type 0 where
