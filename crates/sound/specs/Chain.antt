@@ -9,7 +9,7 @@ use Rattle.choice.specs.Choice.{ifEq, eq-yes, eq-no, upd, upd-same, upd-other, 
 use Rattle.definition.specs.Lists.{Lists, remove, push, drop}
 use Rattle.invariants.specs.Members.{Mem, NoDup, Parts, parts, Apiece}
 use Rattle.script.specs.Memory.{none, root}
-use Rattle.plans.specs.Links.{node}
+use Rattle.sound.specs.Links.{node}
 
 -- from the node n on stands l; w is what the first of l says is before it
 abbrev pub Chain : (ℕ → ℕ) → (ℕ → ℕ) → ℕ → ℕ → List ℕ → Type 0

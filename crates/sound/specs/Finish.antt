@@ -15,7 +15,7 @@ use Rattle.script.specs.Memory.{Memory, Size, Before, Next, Prev, Mark, Live, T
 use Rattle.sound.specs.Row.{Row}
 use Rattle.sound.specs.Chain.{chain-keep}
 use Rattle.sound.specs.Strung.{Strung, Marked}
-use Rattle.plans.specs.Plans.{padWrites}
+use Rattle.sound.specs.Plans.{padWrites}
 use Rattle.sound.specs.Relists.{NotIn}
 use Rattle.sound.specs.Leave.{LeavesIn, row-as}
 use Rattle.sound.specs.Swaps.{pad-free}

@@ -18,7 +18,7 @@ use Rattle.sound.specs.Row.{Row}
 use Rattle.sound.specs.Chain.{Chain, Real}
 use Rattle.sound.specs.Strung.{Strung, Marked}
 use Rattle.sound.specs.Sound.{Lively, Padded, Sound}
-use Rattle.plans.specs.Checks.{mustGrain, mustLead, seeHead}
+use Rattle.sound.specs.Checks.{mustGrain, mustLead, seeHead}
 use Rattle.sound.specs.Swaps.{pad-inside}
 use Rattle.sound.specs.Seen.{gives-grain, gives-lead, head-strung}
 

@@ -17,12 +17,12 @@ use Rattle.script.specs.Memory.{Memory, Size, Before, Next, Prev, Mark, Live, T
 use Rattle.script.specs.Script.{Script, Gives, run, over, over-run, goes, gives-done, _>>=_}
 use Rattle.sound.specs.Row.{Row, Left, linkL, row-split, row-join, left-keep, row-keep}
 use Rattle.sound.specs.Strung.{push-untouched}
-use Rattle.plans.specs.Checks.{seeHead, few-head}
-use Rattle.plans.specs.RegionPlan.{pieceWrites, Layout, layScript}
+use Rattle.sound.specs.Checks.{seeHead, few-head}
+use Rattle.sound.specs.RegionPlan.{pieceWrites, Layout, layScript}
 use Rattle.sound.specs.Relists.{Relists, relists-push}
 use Rattle.sound.specs.Swaps.{pad-free}
 use Rattle.sound.specs.Founded.{Founded, founded-real, head-founded, pad-grain}
-use Rattle.plans.specs.Links.{pushWrites}
+use Rattle.sound.specs.Links.{pushWrites}
 
 -- ---- what stands before a piece
 

@@ -14,11 +14,11 @@ use Rattle.script.specs.Memory.{Memory, Size, Before, Next, Prev, Mark, Live, T
 use Rattle.script.specs.Script.{Script, done, Gives, gives-bind, gives-done, gives-le}
 use Rattle.sound.specs.Row.{Row}
 use Rattle.sound.specs.Strung.{Strung}
-use Rattle.plans.specs.Checks.{seeHead, mustList}
-use Rattle.plans.specs.Plans.{leaveScript, wholeWrites, splitWrites}
+use Rattle.sound.specs.Checks.{seeHead, mustList}
+use Rattle.sound.specs.Plans.{leaveScript, wholeWrites, splitWrites}
 use Rattle.sound.specs.Core.{Core, row-used, row-split-used, splitSize, splitBefore}
 use Rattle.sound.specs.Relists.{Relists, NotIn, Fewer, relists-push, relists-then}
-use Rattle.plans.specs.Links.{pushWrites}
+use Rattle.sound.specs.Links.{pushWrites}
 
 -- the writes, where the memory before was m
 abbrev pub restWrites : Memory → List Write → ℕ → ℕ → ℕ → List Write

@@ -1,5 +1,13 @@
--- How a memory stands for a heap, and that on a sound memory each call's script does what the definition says.
--- The relation: Row (the blocks), Chain and Strung (the lists), Sound. What it is worth: Meets, Determined, Fresh.
+-- What each call reads, checks and writes, on any memory; how a memory stands for a heap; and that on such a memory each
+-- call does what the definition says.
+
+-- the scripts: the parts, the calls, and how many words they take
+pub mod Links
+pub mod Checks
+pub mod Plans
+pub mod RegionPlan
+pub mod Constant
+-- the relation: the blocks, the lists, all of it; what it is worth
 pub mod Row
 pub mod Chain
 pub mod Strung
@@ -7,7 +15,7 @@ pub mod Sound
 pub mod Meets
 pub mod Determined
 pub mod Fresh
--- steps of the proofs: the checks go through, rows and lists after the writes, what is left to show
+-- steps of the proofs: the checks go through; rows and lists after the writes; what is left to show
 pub mod Seen
 pub mod SeenBeside
 pub mod Core

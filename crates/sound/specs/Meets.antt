@@ -6,7 +6,7 @@ use Rattle.definition.specs.Calls.{Heap, Refusal, noList, notLive, noRegion, An
 use Rattle.script.specs.Memory.{Memory, apply}
 use Rattle.script.specs.Script.{Script, Result, ok, no, run}
 use Rattle.sound.specs.Sound.{Sound}
-use Rattle.plans.specs.Plans.{Plan}
+use Rattle.sound.specs.Plans.{Plan}
 
 -- the numbers of document 01, section 9
 abbrev pub number : Refusal → ℕ

@@ -15,8 +15,8 @@ use Rattle.invariants.specs.Regions.{laidOut, gap-out, insert-spot, insert-none
 use Rattle.script.specs.Memory.{Memory, Table, Write, _at_≔_, apply, apply-append, apply-untouched}
 use Rattle.script.specs.Script.{Script, no, run, done, stop, reads, goes, halts, gives-eq, gives-le, gives-done, halts-le, unlessLe, mustEq, mustLe, _>>=_, _>>_}
 use Rattle.sound.specs.Sound.{InTable, Given, Sound}
-use Rattle.plans.specs.Plans.{Plan}
-use Rattle.plans.specs.RegionPlan.{Looked, seeRegions, Layout, layScript, regionScript}
+use Rattle.sound.specs.Plans.{Plan}
+use Rattle.sound.specs.RegionPlan.{Looked, seeRegions, Layout, layScript, regionScript}
 use Rattle.sound.specs.Meets.{Meets, Grants}
 use Rattle.sound.specs.Founded.{Founded, sound-founded}
 use Rattle.sound.specs.Laying.{lays}

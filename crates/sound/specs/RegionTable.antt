@@ -14,7 +14,7 @@ use Rattle.invariants.specs.Regions.{lay-total, lay-gap, lay-old, lay-some}
 use Rattle.script.specs.Memory.{Memory, Table}
 use Rattle.script.specs.Script.{Script, Gives, Result, ok, no, run, done, stop, reads, goes, halts, gives-le, gives-done, halts-le, unlessLe, _>>=_, _>>_}
 use Rattle.sound.specs.Sound.{InTable, Given}
-use Rattle.plans.specs.RegionPlan.{Looked, wrongOf, seeRegions}
+use Rattle.sound.specs.RegionPlan.{Looked, wrongOf, seeRegions}
 
 -- region j: its first grain and its end
 abbrev pub firstOf : Memory → ℕ → ℕ

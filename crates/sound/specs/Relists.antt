@@ -13,7 +13,7 @@ use Rattle.invariants.specs.Members.{Mem, Apiece, apiece-drop, apiece-push, mem
 use Rattle.script.specs.Memory.{Memory, Size, Before, Next, Prev, Mark, Live, Table, none, root, Write, apply, latest, apply-is, apply-append, apply-spared, Untouched, untouched-append}
 use Rattle.sound.specs.Chain.{Real, head-is, next-mem}
 use Rattle.sound.specs.Strung.{Strung, strung-unlink, strung-push, unlink-untouched, push-untouched, unlink-spares, push-spares}
-use Rattle.plans.specs.Links.{unlinkWrites, pushWrites}
+use Rattle.sound.specs.Links.{unlinkWrites, pushWrites}
 
 -- y is in no list
 abbrev pub NotIn : Lists → ℕ → Type 0

@@ -18,7 +18,7 @@ use Rattle.invariants.specs.Promises.{leave-here, leave-only}
 use Rattle.script.specs.Memory.{Memory, Size, Before, Live, none, apply, _at_≔_}
 use Rattle.script.specs.Script.{run, gives-bind, gives-done}
 use Rattle.sound.specs.Sound.{Sound}
-use Rattle.plans.specs.Plans.{bothLeave, padWrites, leaveScript, downScript}
+use Rattle.sound.specs.Plans.{bothLeave, padWrites, leaveScript, downScript}
 use Rattle.sound.specs.Meets.{Grants}
 use Rattle.sound.specs.Core.{core-both}
 use Rattle.sound.specs.Leave.{leaveWrites, leave-gives, leave-memory}

@@ -18,7 +18,7 @@ use Rattle.invariants.specs.Promises.{leave-here}
 use Rattle.script.specs.Memory.{Memory, Size, Before, Write, apply}
 use Rattle.script.specs.Script.{run, done, Gives, gives-bind, gives-done, over, _>>=_}
 use Rattle.sound.specs.Sound.{Sound}
-use Rattle.plans.specs.Plans.{Plan, roomOf, leaves, leaveScript, stretchScript}
+use Rattle.sound.specs.Plans.{Plan, roomOf, leaves, leaveScript, stretchScript}
 use Rattle.sound.specs.Meets.{Grants}
 use Rattle.sound.specs.Core.{core-behind}
 use Rattle.sound.specs.Leave.{leaveWrites, leave-gives, leave-memory}

@@ -15,10 +15,10 @@ use Rattle.invariants.specs.NotLive.{not-live-resize}
 use Rattle.script.specs.Memory.{Memory, Live, Write, apply, apply-append}
 use Rattle.script.specs.Script.{Script, ok, run, goes, halts, gives-bind, gives-done, over, over-run}
 use Rattle.sound.specs.Sound.{Sound}
-use Rattle.plans.specs.Checks.{Beside, seeOwner, seeBehind, seeBefore}
-use Rattle.plans.specs.Plans.{Plan, roomOf, bothLeave, takeScript, giveBackScript, elsewhereScript, downScript, moveScript, stretchScript, growScript, resizeScript}
+use Rattle.sound.specs.Checks.{Beside, seeOwner, seeBehind, seeBefore}
+use Rattle.sound.specs.Plans.{Plan, roomOf, bothLeave, takeScript, giveBackScript, elsewhereScript, downScript, moveScript, stretchScript, growScript, resizeScript}
 use Rattle.sound.specs.Meets.{Meets}
-use Rattle.plans.specs.Constant.{back-reads}
+use Rattle.sound.specs.Constant.{back-reads}
 use Rattle.sound.specs.Seen.{not-owner}
 use Rattle.sound.specs.SeenBeside.{Here, beside, room-seen, behind-seen, before-seen, owner-seen}
 use Rattle.sound.specs.TakeSound.{take-meets}

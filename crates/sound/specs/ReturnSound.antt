@@ -20,8 +20,8 @@ use Rattle.script.specs.Memory.{Memory, Size, Before, Next, Prev, Mark, Live, T
 use Rattle.script.specs.Script.{Gives, gives-bind, gives-done, gives-le, halts}
 use Rattle.sound.specs.Row.{Row}
 use Rattle.sound.specs.Sound.{Sound, Lively, Padded, Given}
-use Rattle.plans.specs.Checks.{mustList, seeHead, seeOwner, seeBehind, seeBefore}
-use Rattle.plans.specs.Plans.{Plan, roomOf, bothLeave, freeWrites, joinScript, giveBackScript}
+use Rattle.sound.specs.Checks.{mustList, seeHead, seeOwner, seeBehind, seeBefore}
+use Rattle.sound.specs.Plans.{Plan, roomOf, bothLeave, freeWrites, joinScript, giveBackScript}
 use Rattle.sound.specs.Meets.{Grants, Meets}
 use Rattle.sound.specs.Core.{core-both, row-free}
 use Rattle.sound.specs.Relists.{Relists, relists-push, relists-then}
@@ -30,7 +30,7 @@ use Rattle.sound.specs.Swaps.{Swaps, lively-drop, pad-inside, pad-free, 
 use Rattle.sound.specs.Seen.{not-owner, head-seen}
 use Rattle.sound.specs.SeenBeside.{Here, beside, room-seen, owner-seen, behind-seen, before-seen, merged-list}
 use Rattle.sound.specs.Skips.{skips-both, fewer-both, not-in-both}
-use Rattle.plans.specs.Links.{pushWrites}
+use Rattle.sound.specs.Links.{pushWrites}
 use Rattle.invariants.specs.Gaps.{gap-used}
 use Rattle.sound.specs.Settle.{pad-some}
 

@@ -19,8 +19,8 @@ use Rattle.sound.specs.Row.{Row, row-split}
 use Rattle.sound.specs.Chain.{Chain, Real, next-mem, prev-mem, node-leads, next-back}
 use Rattle.sound.specs.Strung.{Strung, Marked, mark-of}
 use Rattle.sound.specs.Sound.{Sound}
-use Rattle.plans.specs.Checks.{Word, isFree, isUsed, isLast, wordOf, mustGrain, mustLead, mustBack, asBusy, asFree, asUsed, mustBusy, mustFree, mustUsed, seePrev, seeEntry, seeHead, seeOwner}
-use Rattle.plans.specs.Links.{node}
+use Rattle.sound.specs.Checks.{Word, isFree, isUsed, isLast, wordOf, mustGrain, mustLead, mustBack, asBusy, asFree, asUsed, mustBusy, mustFree, mustUsed, seePrev, seeEntry, seeHead, seeOwner}
+use Rattle.sound.specs.Links.{node}
 
 -- ---- what the three size words say
 

@@ -17,8 +17,8 @@ use Rattle.script.specs.Memory.{Memory, Size, Before, Next, Prev, Live, none, f
 use Rattle.script.specs.Script.{Script, done, _>>=_, unlessEq, mustEq, mustLe, Gives, gives-bind, gives-get, gives-eq, gives-le, gives-done}
 use Rattle.sound.specs.Row.{Row, Left, linkL, row-split}
 use Rattle.sound.specs.Sound.{Sound}
-use Rattle.plans.specs.Checks.{Word, isFree, isUsed, isLast, wordOf, mustLead, mustBusy, mustUsed, mustList, seeEntry, Beside, nobody, somebody, freeBehind, asBehind, seeBehind, freeBefore, asBefore, seeBefore, blockOf, seeOwner}
-use Rattle.plans.specs.Plans.{roomOf}
+use Rattle.sound.specs.Checks.{Word, isFree, isUsed, isLast, wordOf, mustLead, mustBusy, mustUsed, mustList, seeEntry, Beside, nobody, somebody, freeBehind, asBehind, seeBehind, freeBefore, asBefore, seeBefore, blockOf, seeOwner}
+use Rattle.sound.specs.Plans.{roomOf}
 use Rattle.sound.specs.Seen.{word-free, word-used, word-last, gives-word, gives-lead, gives-used, free-facts, entry-seen}
 
 -- the block b between l and r

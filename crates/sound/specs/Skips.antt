@@ -16,8 +16,8 @@ use Rattle.script.specs.Memory.{Memory, Next, Prev, Write, apply, apply-is}
 use Rattle.sound.specs.Chain.{Real}
 use Rattle.sound.specs.Strung.{Strung}
 use Rattle.sound.specs.Sound.{Sound}
-use Rattle.plans.specs.Checks.{Beside}
-use Rattle.plans.specs.Plans.{leaves, afterwards, bothLeave}
+use Rattle.sound.specs.Checks.{Beside}
+use Rattle.sound.specs.Plans.{leaves, afterwards, bothLeave}
 use Rattle.sound.specs.Relists.{Relists, NotIn, Fewer, relists-none, relists-drop, relists-then}
 use Rattle.sound.specs.Seen.{lists-real}
 use Rattle.sound.specs.SeenBeside.{Here, beside}

@@ -9,7 +9,7 @@ use Rattle.choice.specs.Choice.{ifEq, eq-yes, eq-no, eq-case, upd, upd-same, up
 use Rattle.definition.specs.Lists.{Lists, remove, push, drop}
 use Rattle.invariants.specs.Members.{Mem, NoDup, Parts, parts, Apiece}
 use Rattle.script.specs.Memory.{Memory, Size, Before, Next, Prev, Mark, Live, Table, none, root, Write, _at_≔_, put, apply, Untouched, Spared}
-use Rattle.plans.specs.Links.{unlinkWrites, pushWrites, node}
+use Rattle.sound.specs.Links.{unlinkWrites, pushWrites, node}
 use Rattle.sound.specs.Chain.{Chain, Links, Real, chain-keep, links-unlink, links-push, not-root, not-none, head-is, node-mem, next-mem, prev-mem, prev-is, tail-of, lastOr, last-mem}
 
 -- a list's mark

@@ -21,8 +21,8 @@ use Rattle.script.specs.Script.{Script, run, no, done, Gives, gives-bind, gives
 use Rattle.sound.specs.Chain.{Real}
 use Rattle.sound.specs.Strung.{Strung, Marked}
 use Rattle.sound.specs.Sound.{Sound}
-use Rattle.plans.specs.Checks.{mustGrain, mustFree, mustLead, mustBack, mustBusy}
-use Rattle.plans.specs.Plans.{Plan, takeScript, leaveScript, padWrites}
+use Rattle.sound.specs.Checks.{mustGrain, mustFree, mustLead, mustBack, mustBusy}
+use Rattle.sound.specs.Plans.{Plan, takeScript, leaveScript, padWrites}
 use Rattle.sound.specs.Meets.{number, Grants, Meets}
 use Rattle.sound.specs.Core.{core-free}
 use Rattle.sound.specs.Relists.{Relists, NotIn, Fewer, relists-drop}
@@ -32,7 +32,7 @@ use Rattle.sound.specs.Finish.{Finished, finish-memory}
 use Rattle.sound.specs.Settle.{settle, leave-total}
 use Rattle.sound.specs.Seen.{FreeFacts, free-facts, member-inside, lists-real, head-seen, free-seen, head-leads, head-prev, head-back, gives-lead, gives-grain}
 use Rattle.sound.specs.SeenBeside.{Here}
-use Rattle.plans.specs.Links.{unlinkWrites}
+use Rattle.sound.specs.Links.{unlinkWrites}
 use Rattle.invariants.specs.Gaps.{gap-free}
 
 -- ---- the search of the map finds the list that the definition finds
