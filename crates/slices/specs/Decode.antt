@@ -161,6 +161,7 @@ decoded u n g v =
   where
     In : ℕ → Type 0
     In x = Inside n g (wordOf x)
+
     wrong : In wrongSize
     wrong = rw wrong-is tt
 

@@ -3,5 +3,7 @@ pub mod Decode
 pub mod Arena
 pub mod Heads
 pub mod Slices
+pub mod Fields
+pub mod Kept
 pub mod Stored
 pub mod Widths
