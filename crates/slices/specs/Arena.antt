@@ -1,16 +1,38 @@
 -- The arena's words as fields of its grains: word 4 * g + f is field f of grain g. A field read (`sizeAt`, `linkAt`), a
 -- field stored (`putSize`, `putLink`), and that storing one changes that one alone.
-use Prim.Native.Nat.{ℕ, suc, _+_, _-_, _*_, _^_, _≤_, _<_}
+use Prim.Native.Nat.{ℕ, suc, _+_, _-_, _*_, _≤_, _<_}
 use native.Mathlib.Nat.{mul-le-mul-left, mul-add, mul-one, mul-assoc, mul-comm}
 use native.Mathlib.Omega.{arith}
-use mathlib.Core.Path.{_≡_, refl, ap, sym, _∙_}
+use mathlib.Core.Path.{_≡_, ap, sym, _∙_}
 use mathlib.Core.List.{List}
 use mathlib.Core.Logic.{⊎-elim}
 use lib.ListN.{length, getD}
-use Rattle.choice.specs.Choice.{ifLe, le-yes, upd, upd-same, upd-other, same?}
+use Rattle.choice.specs.Choice.{ifLe, le-yes, le-no, le-case, upd, upd-same, upd-other, same?}
 use Rattle.word.specs.Number.{Apart}
 use Rattle.word.specs.Word.{wordAt, putAt, put-at-length, word-at-put, word-at-other, put-at-byte}
-use Rattle.slices.specs.Decode.{sizeOf, linkOf, sizeWord, linkWord, wrongSize, ValidSize, ValidLink, size-back, link-back, size-below, link-below, grains, topOf, Wide, grains-keep, grains-le, grains-none}
+use Rattle.sound.specs.Checks.{wordOf}
+use Rattle.slices.specs.Decode.{
+  sizeOf,
+  linkOf,
+  sizeWord,
+  linkWord,
+  wrongSize,
+  ValidSize,
+  ValidLink,
+  size-back,
+  link-back,
+  size-fits,
+  link-fits,
+  Inside,
+  decoded,
+  wrong-inside,
+  grains,
+  topOf,
+  Wide,
+  grains-keep,
+  grains-le,
+  grains-none,
+}
 
 -- the size at grain g
 unfoldable pub sizeAt : ℕ → List ℕ → ℕ → ℕ
@@ -20,9 +42,11 @@ sizeAt w a g = ifLe (suc g) (grains w a) (sizeOf (4 * w) (grains w a) g (wordAt 
 unfoldable pub linkAt : ℕ → List ℕ → ℕ → ℕ → ℕ → ℕ
 linkAt w a f out g = ifLe (suc g) (grains w a) (linkOf (4 * w) (grains w a) (topOf w) (wordAt w a (4 * g + f))) out
 
+-- v stored as the size at grain g
 unfoldable pub putSize : ℕ → List ℕ → ℕ → ℕ → List ℕ
 putSize w a g v = putAt w a (4 * g) (sizeWord (4 * w) v)
 
+-- v stored as the link in field f of grain g
 unfoldable pub putLink : ℕ → List ℕ → ℕ → ℕ → ℕ → List ℕ
 putLink w a f g v = putAt w a (4 * g + f) (linkWord (4 * w) (topOf w) v)
 
@@ -33,7 +57,35 @@ changed-at f e x v p q y = ⊎-elim
     (λ (n : y ≡ x → ⊥). q y (λ c. n (sym c)) ∙ sym (upd-other f x v y n))
     (same? y x)
 
--- ---- lengths
+-- ---- reading
+
+module _ (w : ℕ) (a : List ℕ) (g : ℕ) where
+  -- inside the arena its word is decoded
+  pub size-in : g < grains w a → sizeAt w a g ≡ sizeOf (4 * w) (grains w a) g (wordAt w a (4 * g))
+  unfolding sizeAt
+  size-in h = le-yes _ _ _ _ h
+
+  pub link-in : (f out : ℕ) → g < grains w a → linkAt w a f out g ≡ linkOf (4 * w) (grains w a) (topOf w) (wordAt w a (4 * g + f))
+  unfolding linkAt
+  link-in f out h = le-yes _ _ _ _ h
+
+  -- outside nothing is read
+  pub size-out : grains w a ≤ g → sizeAt w a g ≡ wrongSize
+  unfolding sizeAt
+  size-out h = le-no _ _ _ _ (λ q. omega arith)
+
+  pub link-out : (f out : ℕ) → grains w a ≤ g → linkAt w a f out g ≡ out
+  unfolding linkAt
+  link-out f out h = le-no _ _ _ _ (λ q. omega arith)
+
+  -- a block that a size says lies in the arena, and one grain more
+  pub size-inside : Inside (grains w a) g (wordOf (sizeAt w a g))
+  unfolding sizeAt
+  size-inside = le-case (λ (x : ℕ). Inside (grains w a) g (wordOf x)) (suc g) (grains w a) _ _
+      (λ _. decoded (4 * w) (grains w a) g (wordAt w a (4 * g)))
+      (λ _. wrong-inside (grains w a) g)
+
+-- ---- storing keeps the length
 
 pub put-size-length : (w : ℕ) (a : List ℕ) (g v : ℕ) → length (putSize w a g v) ≡ length a
 unfolding putSize
@@ -49,7 +101,7 @@ put-size-grains w a g v = grains-keep w a (putSize w a g v) (put-size-length w a
 pub put-link-grains : (w : ℕ) (a : List ℕ) (f g v : ℕ) → grains w (putLink w a f g v) ≡ grains w a
 put-link-grains w a f g v = grains-keep w a (putLink w a f g v) (put-link-length w a f g v)
 
--- ---- bytes outside the word
+-- ---- and the bytes outside the word
 
 pub put-size-byte : (w : ℕ) (a : List ℕ) (g v j : ℕ) → Apart (w * (4 * g)) w j 1 → getD (putSize w a g v) j 0 ≡ getD a j 0
 unfolding putSize
@@ -70,10 +122,12 @@ field-inside w a g f h k =
 -- ---- a size stored
 
 module _ (w : ℕ) (a : List ℕ) (g v : ℕ) where
+  -- the other words stay
   size-spares : (j : ℕ) → (4 * g ≡ j → ⊥) → wordAt w (putSize w a g v) j ≡ wordAt w a j
   unfolding putSize
   size-spares j ne = word-at-other w a (4 * g) (sizeWord (4 * w) v) j ne
 
+  -- so the other sizes, and all links
   pub size-other : (h : ℕ) → (g ≡ h → ⊥) → sizeAt w (putSize w a g v) h ≡ sizeAt w a h
   unfolding sizeAt
   size-other h ne = rw (put-size-grains w a g v, size-spares (4 * h) (λ e. ne (omega arith)))
@@ -83,12 +137,14 @@ module _ (w : ℕ) (a : List ℕ) (g v : ℕ) where
   size-link f out h p q = rw (put-size-grains w a g v, size-spares (4 * h + f) (λ e. omega arith))
 
   module _ (k : Wide w a) (h : g < grains w a) (f : ValidSize (grains w a) g v) where
+    -- the word that is stored
     size-word : wordAt w (putSize w a g v) (4 * g) ≡ sizeWord (4 * w) v
     unfolding putSize
     size-word = word-at-put w a (4 * g) (sizeWord (4 * w) v)
         (omega (arith, field-inside w a g 0 h (omega arith)))
-        (size-below (4 * w) (grains w a) g v (256 ^ w) (omega (arith, grains-le w a, k .short)) (omega (arith, k .some)) (k .grainy) f)
+        (size-fits k g v f)
 
+    -- the size that is read again
     pub size-same : sizeAt w (putSize w a g v) g ≡ v
     unfolding sizeAt
     size-same =
@@ -102,10 +158,12 @@ module _ (w : ℕ) (a : List ℕ) (g v : ℕ) where
 -- ---- a link stored
 
 module _ (w : ℕ) (a : List ℕ) (f g v : ℕ) where
+  -- the other words stay
   link-spares : (j : ℕ) → (4 * g + f ≡ j → ⊥) → wordAt w (putLink w a f g v) j ≡ wordAt w a j
   unfolding putLink
   link-spares j ne = word-at-other w a (4 * g + f) (linkWord (4 * w) (topOf w) v) j ne
 
+  -- so all sizes, the links in other fields, and those of other grains
   pub link-size : (h : ℕ) → 1 ≤ f → f < 4 → sizeAt w (putLink w a f g v) h ≡ sizeAt w a h
   unfolding sizeAt
   link-size h p q = rw (put-link-grains w a f g v, link-spares (4 * h) (λ e. omega arith))
@@ -119,12 +177,14 @@ module _ (w : ℕ) (a : List ℕ) (f g v : ℕ) where
   link-other out h ne = rw (put-link-grains w a f g v, link-spares (4 * h + f) (λ d. ne (omega arith)))
 
   module _ (k : Wide w a) (h : g < grains w a) (b : f < 4) (l : ValidLink (grains w a) v) where
+    -- the word that is stored
     link-word : wordAt w (putLink w a f g v) (4 * g + f) ≡ linkWord (4 * w) (topOf w) v
     unfolding putLink
     link-word = word-at-put w a (4 * g + f) (linkWord (4 * w) (topOf w) v)
         (field-inside w a g f h b)
-        (link-below (4 * w) (grains w a) v (256 ^ w) (omega (arith, grains-le w a, k .short)) l)
+        (link-fits k v l)
 
+    -- the link that is read again
     pub link-same : (out : ℕ) → linkAt w (putLink w a f g v) f out g ≡ v
     unfolding linkAt
     link-same out =

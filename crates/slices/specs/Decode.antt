@@ -1,6 +1,7 @@
 -- What a stored word says, and which word is stored for a number: sizes and links. A grain has u bytes, the arena n
 -- grains. Sizes and links stand in bytes in a word and in grains in the memory; the two flags of a size are the same in
--- both. Any word has a reading: what can't be right is read as `wrongSize` or `wrongLink`.
+-- both. Any word has a reading: what can't be right is read as `wrongSize` or `wrongLink`. At the end the arena itself,
+-- and how short it must be (`Wide`) so that each of its words holds what is to be stored.
 use Prim.Native.Nat.{ℕ, suc, _+_, _-_, _*_, _/_, _%_, _^_, _≤_, _<_}
 use native.Mathlib.Nat.{mul-add-div, mul-add-mod-self-left, mul-mod-right, mul-div-right, mod-eq-of-lt, div-eq-of-lt, mul-le-mul-left, mul-add, mul-one, mul-div-le, div-le-self}
 use native.Mathlib.Omega.{arith}
@@ -13,6 +14,7 @@ use Rattle.script.specs.Memory.{none, freeWord, usedWord, lastWord}
 use Rattle.sound.specs.Checks.{Word, isFree, isUsed, isLast, isBad, wordOf}
 use Rattle.sound.specs.Seen.{word-free, word-used, word-last}
 
+-- how a size or a link that can't be right is read
 abbrev pub wrongSize : ℕ
 wrongSize = 2
 
@@ -40,9 +42,11 @@ linkOf u n top v = ifEq v top none (ifEq (v % u) 0 (ifLe (v / u + 1) n (v / u) w
 
 -- ---- numbers to words
 
+-- four times the grains and the flags: u times the grains and the flags
 unfoldable pub sizeWord : ℕ → ℕ → ℕ
 sizeWord u v = u * (v / 4) + v % 4
 
+-- where top is the word for none
 unfoldable pub linkWord : ℕ → ℕ → ℕ → ℕ
 linkWord u top v = ifEq v none top (u * v)
 
@@ -52,7 +56,7 @@ pub data ValidSize (n g : ℕ) : ℕ → Type 0 where
   valid-used : (s : ℕ) → 1 ≤ s → g + s + 1 ≤ n → ValidSize n g (usedWord s)
   valid-last : ValidSize n g lastWord
 
--- the links
+-- the links that a word can hold
 abbrev pub ValidLink : ℕ → ℕ → Type 0
 ValidLink n v = (v ≡ none) ⊎ (v < n)
 
@@ -93,11 +97,13 @@ module _ (u n g s r : ℕ) (h : 4 ≤ u) (k : r < 2) where
       let c : (u * s + r) % u ≡ 3 = rw b at a in
       omega (arith, flag-of)
 
+  -- any other is read by its flag
   size-read : 1 ≤ s → g + s + 1 ≤ n → sizeOf u n g (u * s + r) ≡ ifEq r 0 (freeWord s) (ifEq r 1 (usedWord s) wrongSize)
   unfolding sizeOf
   size-read a b =
       eq-no (u * s + r) (u + 3) _ _ not-last ∙ rw (whole-of, flag-of) (eq-no s 0 _ _ (λ e. omega arith) ∙ le-yes (g + s + 1) n _ _ b)
 
+-- a size that is stored is read again
 pub size-back : (u n g v : ℕ) → 4 ≤ u → ValidSize n g v → sizeOf u n g (sizeWord u v) ≡ v
 unfolding sizeOf
 size-back u n g v h (valid-free s a b) =
@@ -109,7 +115,7 @@ size-back u n g v h (valid-used s a b) =
     ∙ eq-no 1 0 _ _ (λ e. omega arith) ∙ eq-yes 1 1 _ _ refl
 size-back u n g v h valid-last = ap (sizeOf u n g) (last-stored u) ∙ eq-yes (u + 3) (u + 3) _ _ refl
 
--- top is no multiple of u inside the arena, so a grain is not taken for none
+-- and so is a link: top is behind the arena, so no grain is taken for none
 pub link-back : (u n top v : ℕ) → 1 ≤ u → u * n ≤ top → n ≤ none → ValidLink n v → linkOf u n top (linkWord u top v) ≡ v
 unfolding linkOf linkWord
 link-back u n top v h b m (inl e) = ap (linkOf u n top) (eq-yes v none _ _ e) ∙ eq-yes top top _ _ refl ∙ sym e
@@ -119,8 +125,9 @@ link-back u n top v h b m (inr f) =
     ∙ eq-no (u * v) top _ _ (λ e. omega (arith, l, mul-add u v 1, mul-one u))
     ∙ rw (mul-mod-right u v, mul-div-right v {m = u} (omega arith)) (eq-yes 0 0 _ _ refl ∙ le-yes (v + 1) n _ _ (omega arith))
 
--- ---- and fits a word, where the arena's bytes and the sentinel's word do
+-- ---- and fits a word
 
+-- where the arena's bytes and the sentinel's word fit
 pub size-below : (u n g v m : ℕ) → u * n < m → 1 ≤ u → u + 3 < m → ValidSize n g v → sizeWord u v < m
 size-below u n g v m b h k (valid-free s p q) =
     let l = mul-le-mul-left {m = s} {n = n} u (omega arith) in omega (arith, free-stored u s, l)
@@ -128,6 +135,7 @@ size-below u n g v m b h k (valid-used s p q) =
     let l = mul-le-mul-left {m = s + 1} {n = n} u (omega arith) in omega (arith, used-stored u s, l, mul-add u s 1, mul-one u)
 size-below u n g v m b h k valid-last = omega (arith, last-stored u)
 
+-- where the arena's bytes fit
 pub link-below : (u n v m : ℕ) → u * n < m → ValidLink n v → linkWord u (m - 1) v < m
 unfolding linkWord
 link-below u n v m b (inl e) = rw (eq-yes v none (m - 1) (u * v) e) (omega arith)
@@ -137,33 +145,31 @@ link-below u n v m b (inr f) =
 
 -- ---- what any word says, where it says a block
 
--- a size with its place in the arena
+-- a block of this size at g has a grain of the arena behind it
 abbrev pub Inside : ℕ → ℕ → Word → Type 0
 Inside n g (isFree s) = (1 ≤ s) × (g + s + 1 ≤ n)
 Inside n g (isUsed s) = (1 ≤ s) × (g + s + 1 ≤ n)
 Inside n g isLast = Unit {0}
 Inside n g isBad = Unit {0}
 
-wrong-is : wordOf wrongSize ≡ isBad
+pub wrong-inside : (n g : ℕ) → Inside n g (wordOf wrongSize)
 unfolding wordOf
-wrong-is = refl
+wrong-inside n g = tt
 
+-- so it is with every size that was decoded
 pub decoded : (u n g v : ℕ) → Inside n g (wordOf (sizeOf u n g v))
 unfolding sizeOf
 decoded u n g v =
     eq-case In v (u + 3) _ _ (λ _. rw word-last tt) λ _.
-    eq-case In (v / u) 0 _ _ (λ _. wrong) λ z.
+    eq-case In (v / u) 0 _ _ (λ _. wrong-inside n g) λ z.
     le-case In (g + v / u + 1) n _ _
     (λ h. eq-case In (v % u) 0 _ _
     (λ _. rw (word-free (v / u) (omega (arith, z))) (omega (arith, z), h))
-    (λ _. eq-case In (v % u) 1 _ _ (λ _. rw (word-used (v / u) (omega (arith, z))) (omega (arith, z), h)) (λ _. wrong)))
-    (λ _. wrong)
+    (λ _. eq-case In (v % u) 1 _ _ (λ _. rw (word-used (v / u) (omega (arith, z))) (omega (arith, z), h)) (λ _. wrong-inside n g)))
+    (λ _. wrong-inside n g)
   where
     In : ℕ → Type 0
     In x = Inside n g (wordOf x)
-
-    wrong : In wrongSize
-    wrong = rw wrong-is tt
 
 pub decoded-free : (u n g v s : ℕ) → wordOf (sizeOf u n g v) ≡ isFree s → (1 ≤ s) × (g + s + 1 ≤ n)
 decoded-free u n g v s e = subst (Inside n g) e (decoded u n g v)
@@ -188,6 +194,7 @@ pub record Wide (w : ℕ) (a : List ℕ) : Type 0 where
   pub head : length a < 256 ^ headBytes
   pub grainy : 4 * w + 3 < 256 ^ w
 
+-- the two machines
 pub wide-8 : (a : List ℕ) → length a < 2 ^ 64 → Wide 8 a
 wide-8 a h = record { some = omega arith; short = h; head = h; grainy = omega arith }
 
@@ -202,7 +209,7 @@ pub grains-keep : (w : ℕ) (a b : List ℕ) → length b ≡ length a → grain
 unfolding grains
 grains-keep w a b e = ap (λ (n : ℕ). n / (4 * w)) e
 
--- its grains are inside
+-- its grains' bytes are inside
 pub grains-le : (w : ℕ) (a : List ℕ) → 4 * w * grains w a ≤ length a
 unfolding grains
 grains-le w a = mul-div-le (length a) (4 * w)
@@ -211,3 +218,15 @@ grains-le w a = mul-div-le (length a) (4 * w)
 pub grains-none : {w : ℕ} {a : List ℕ} → Wide w a → grains w a ≤ none
 unfolding grains none
 grains-none {w} {a} k = omega (arith, div-le-self (length a) (4 * w), k .head)
+
+-- what is stored fits a word of the arena, and a list head
+module _ {w : ℕ} {a : List ℕ} (k : Wide w a) where
+  pub size-fits : (g v : ℕ) → ValidSize (grains w a) g v → sizeWord (4 * w) v < 256 ^ w
+  size-fits g v f =
+      size-below (4 * w) (grains w a) g v (256 ^ w) (omega (arith, grains-le w a, k .short)) (omega (arith, k .some)) (k .grainy) f
+
+  pub link-fits : (v : ℕ) → ValidLink (grains w a) v → linkWord (4 * w) (topOf w) v < 256 ^ w
+  link-fits v f = link-below (4 * w) (grains w a) v (256 ^ w) (omega (arith, grains-le w a, k .short)) f
+
+  pub head-fits : (v : ℕ) → ValidLink (grains w a) v → linkWord (4 * w) (topOf headBytes) v < 256 ^ headBytes
+  head-fits v f = link-below (4 * w) (grains w a) v (256 ^ headBytes) (omega (arith, grains-le w a, k .head)) f

@@ -1,9 +1,9 @@
 -- A word stored, field by field: in the memory of the slices one field changes, at one place, and nothing else.
-use Prim.Native.Nat.{ℕ, zero, suc, _+_, _*_, _≤_, _<_}
+use Prim.Native.Nat.{ℕ, zero, suc, _*_, _≤_, _<_}
 use native.Mathlib.Omega.{arith}
 use mathlib.Core.Path.{_≡_, refl, ap, sym, _∙_, subst}
 use mathlib.Core.List.{List}
-use mathlib.Core.Logic.{_⊎_, inl, inr}
+use mathlib.Core.Logic.{inl, inr}
 use lib.ListN.{length}
 use Rattle.choice.specs.Choice.{eq-case, upd}
 use Rattle.table.specs.Table.{entry, enter, entry-enter, entry-other}
@@ -48,7 +48,9 @@ module _ (w : ℕ) (S : Slices) (wide : Wide w (S .arena)) (p v : ℕ) where
 
   -- ---- in the arena
 
+  -- a size
   size-stored : Fit Size → Becomes w S Size p v (storeAt w S Size p v)
+  unfolding memoryOf
   size-stored h = record {
     here = size-is w (S .arena) p v wide (h .0) (h .1);
     elsewhere = by-field (Same (storeAt w S Size p v) Size)
@@ -62,6 +64,7 @@ module _ (w : ℕ) (S : Slices) (wide : Wide w (S .arena)) (p v : ℕ) where
 
   -- a link in field f leaves the other fields alone
   link-elsewhere : (f : ℕ) → 1 ≤ f → f < 4 → (g : ℕ) → Same (withArena S (putLink w (S .arena) f p v)) f g
+  unfolding memoryOf
   link-elsewhere f l k = by-field (Same (withArena S (putLink w (S .arena) f p v)) f)
       (λ n y. link-size w (S .arena) f p v y l k)
       (λ n y. link-field w (S .arena) f p v Before wrongLink y k (omega arith) n)
@@ -70,13 +73,17 @@ module _ (w : ℕ) (S : Slices) (wide : Wide w (S .arena)) (p v : ℕ) where
       (λ n y. link-field w (S .arena) f p v Prev wrongLink y k (omega arith) n)
       (λ n y. refl) (λ n y. refl) (λ n y. refl) (λ g n y. refl)
 
+  -- the block before
   before-stored : Fit Before → Becomes w S Before p v (storeAt w S Before p v)
+  unfolding memoryOf
   before-stored h = record {
     here = link-is w (S .arena) Before p v wide (h .0) (omega arith) (h .1) wrongLink;
     elsewhere = link-elsewhere Before (omega arith) (omega arith);
   }
 
+  -- the previous free block
   prev-stored : Fit Prev → Becomes w S Prev p v (storeAt w S Prev p v)
+  unfolding memoryOf
   prev-stored h = record {
     here = link-is w (S .arena) Prev p v wide (h .0) (omega arith) (h .1) wrongLink;
     elsewhere = link-elsewhere Prev (omega arith) (omega arith);
@@ -84,6 +91,7 @@ module _ (w : ℕ) (S : Slices) (wide : Wide w (S .arena)) (p v : ℕ) where
 
   -- the next of a grain, and of a root
   next-stored : Fit Next → Becomes w S Next p v (storeAt w S Next p v)
+  unfolding memoryOf
   next-stored (inl h, l) = subst (Becomes w S Next p v) (sym (store-next w S p v (omega (arith, grains-none wide)))) (record {
     here = next-is w (S .arena) (S .lists) p v wide h l;
     elsewhere = link-elsewhere Next (omega arith) (omega arith);
@@ -102,6 +110,7 @@ module _ (w : ℕ) (S : Slices) (wide : Wide w (S .arena)) (p v : ℕ) where
   -- a map that changed at p, and nothing behind it
   map-stored : (t : List ℕ) → ((y : ℕ) → mapBit t y ≡ upd (mapBit (S .lists)) p v y)
       → ((j : ℕ) → mapWords ≤ j → entry t j ≡ entry (S .lists) j) → Becomes w S Mark p v (withLists S t)
+  unfolding memoryOf
   map-stored t m e = record {
     here = m;
     elsewhere = by-field (Same (withLists S t) Mark)
@@ -110,6 +119,7 @@ module _ (w : ℕ) (S : Slices) (wide : Wide w (S .arena)) (p v : ℕ) where
         (λ n y. refl) (λ n. absurd (n refl)) (λ n y. refl) (λ n y. refl) (λ g n y. refl);
   }
 
+  -- a mark
   mark-stored : Fit Mark → Becomes w S Mark p v (storeAt w S Mark p v)
   mark-stored h = eq-case (λ (t : List ℕ). Becomes w S Mark p v (withLists S t)) v 0 _ _
       (λ e. map-stored (unmarkBit (S .lists) p) (λ y. unmark-is (S .lists) p (h .1) (h .0) y ∙ marked y (sym e)) (unmark-entry (S .lists) p (h .0)))
@@ -120,26 +130,29 @@ module _ (w : ℕ) (S : Slices) (wide : Wide w (S .arena)) (p v : ℕ) where
 
   -- live bits that changed at p
   bits-stored : (t : List ℕ) → tableBit t p ≡ v → ((y : ℕ) → (p ≡ y → ⊥) → tableBit t y ≡ tableBit (S .live) y) → Becomes w S Live p v (withLive S t)
+  unfolding memoryOf
   bits-stored t e o = record {
     here = changed-at (tableBit (S .live)) (tableBit t) p v e o;
     elsewhere = by-field (Same (withLive S t) Live)
         (λ n y. refl) (λ n y. refl) (λ n y. refl) (λ n y. refl) (λ n y. refl) (λ n. absurd (n refl)) (λ n y. refl) (λ g n y. refl);
   }
 
+  -- a live bit
   live-stored : Fit Live → Becomes w S Live p v (storeAt w S Live p v)
   live-stored h = eq-case (λ (t : List ℕ). Becomes w S Live p v (withLive S t)) v 0 _ _
       (λ e. bits-stored (clearTableBit (S .live) p) (clear-table-same (S .live) p (h .0) ∙ sym e) (clear-table-other (S .live) p (h .0)))
       (λ n. bits-stored (setTableBit (S .live) p) (set-table-same (S .live) p (h .0) ∙ sym (not-zero n (h .1))) (set-table-other (S .live) p (h .0)))
 
+  -- an entry of the regions
   table-stored : Fit Table → Becomes w S Table p v (storeAt w S Table p v)
+  unfolding memoryOf
   table-stored h = record {
     here = changed-at (entry (S .regions)) (entry (enter (S .regions) p v)) p v (entry-enter (S .regions) p v (h .0)) (entry-other (S .regions) p v);
     elsewhere = by-field (Same (storeAt w S Table p v) Table)
         (λ n y. refl) (λ n y. refl) (λ n y. refl) (λ n y. refl) (λ n y. refl) (λ n y. refl) (λ n. absurd (n refl)) (λ g n y. refl);
   }
 
-  -- ---- whatever the field
-
+  -- whatever the field
   pub field-stored : (f : ℕ) → Fit f → Becomes w S f p v (storeAt w S f p v)
   field-stored = by-field (λ f. Fit f → Becomes w S f p v (storeAt w S f p v))
       size-stored before-stored next-stored prev-stored mark-stored live-stored table-stored (λ f h. absurd h)

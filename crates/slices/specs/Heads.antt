@@ -1,15 +1,15 @@
 -- The list heads, and the field Next, in which they stand beside the links of the arena: a head is stored in the table of
 -- the lists, behind the map. Storing one link changes that one alone.
-use Prim.Native.Nat.{ℕ, suc, _+_, _-_, _*_, _^_, _≤_, _<_}
+use Prim.Native.Nat.{ℕ, suc, _+_, _-_, _*_, _≤_, _<_}
 use native.Mathlib.Omega.{arith}
-use mathlib.Core.Path.{_≡_, refl, ap, sym, _∙_}
+use mathlib.Core.Path.{_≡_, ap, sym, _∙_}
 use mathlib.Core.List.{List}
 use mathlib.Core.Logic.{⊎-elim}
 use lib.ListN.{length}
-use Rattle.choice.specs.Choice.{ifLe, le-yes, le-no, le?, le-case, upd}
+use Rattle.choice.specs.Choice.{ifLe, le-yes, le-no, le?, upd}
 use Rattle.table.specs.Table.{entry, enter, enter-length, entry-enter, entry-other}
-use Rattle.bits.specs.Map.{mapWords, lists, mapBit, markBit, unmarkBit, map-bit-enter, mark-entry, unmark-entry}
-use Rattle.script.specs.Memory.{none, root}
+use Rattle.bits.specs.Map.{mapWords, lists, mapBit, map-bit-enter}
+use Rattle.script.specs.Memory.{Next, none, root}
 use Rattle.slices.specs.Decode.{linkOf, linkWord, headBytes, topOf, ValidLink, link-back, grains, Wide, grains-le, grains-none}
 use Rattle.slices.specs.Arena.{linkAt, putLink, put-link-grains, changed-at, link-same, link-other}
 
@@ -17,37 +17,55 @@ use Rattle.slices.specs.Arena.{linkAt, putLink, put-link-grains, changed
 unfoldable pub headAt : ℕ → ℕ → List ℕ → ℕ → ℕ
 headAt u n t k = ifLe (suc k) lists (linkOf u n (topOf headBytes) (entry t (mapWords + k))) none
 
+-- the table with v stored as the head of list k
 unfoldable pub putHead : ℕ → List ℕ → ℕ → ℕ → List ℕ
 putHead u t k v = enter t (mapWords + k) (linkWord u (topOf headBytes) v)
 
 -- the field Next: roots stand behind all grains
 unfoldable pub nextAt : ℕ → List ℕ → List ℕ → ℕ → ℕ
-nextAt w a t y = ifLe (suc none) y (headAt (4 * w) (grains w a) t (y - suc none)) (linkAt w a 2 none y)
+nextAt w a t y = ifLe (suc none) y (headAt (4 * w) (grains w a) t (y - suc none)) (linkAt w a Next none y)
 
+-- ---- reading
+
+-- a list's entry is decoded
+pub head-in : (u n : ℕ) (t : List ℕ) (k : ℕ) → k < lists → headAt u n t k ≡ linkOf u n (topOf headBytes) (entry t (mapWords + k))
+unfolding headAt
+head-in u n t k h = le-yes _ _ _ _ h
+
+-- what is no list has no head
+pub head-out : (u n : ℕ) (t : List ℕ) (k : ℕ) → lists ≤ k → headAt u n t k ≡ none
+unfolding headAt
+head-out u n t k h = le-no _ _ _ _ (λ q. omega arith)
+
+-- at a root the field is the list's head
 pub next-root : (w : ℕ) (a t : List ℕ) (k : ℕ) → nextAt w a t (root k) ≡ headAt (4 * w) (grains w a) t k
 unfolding nextAt
 next-root w a t k = le-yes _ _ _ _ (omega arith) ∙ ap (headAt (4 * w) (grains w a) t) (omega arith)
 
-pub next-grain : (w : ℕ) (a t : List ℕ) (g : ℕ) → g ≤ none → nextAt w a t g ≡ linkAt w a 2 none g
+-- elsewhere the link of the grain
+pub next-grain : (w : ℕ) (a t : List ℕ) (g : ℕ) → g ≤ none → nextAt w a t g ≡ linkAt w a Next none g
 unfolding nextAt
 next-grain w a t g h = le-no _ _ _ _ (λ q. omega arith)
 
 -- ---- a head stored
 
+-- the length stays
 pub put-head-length : (u : ℕ) (t : List ℕ) (k v : ℕ) → length (putHead u t k v) ≡ length t
 unfolding putHead
 put-head-length u t k v = enter-length t (mapWords + k) (linkWord u (topOf headBytes) v)
 
--- the map stays
+-- and the map
 pub head-map : (u : ℕ) (t : List ℕ) (k v j : ℕ) → mapBit (putHead u t k v) j ≡ mapBit t j
 unfolding putHead
 head-map u t k v j = map-bit-enter t (mapWords + k) (linkWord u (topOf headBytes) v) j (omega arith)
 
+-- and the other heads
 pub head-other : (u n : ℕ) (t : List ℕ) (k v j : ℕ) → (k ≡ j → ⊥) → headAt u n (putHead u t k v) j ≡ headAt u n t j
 unfolding headAt putHead
 head-other u n t k v j ne = rw (entry-other t (mapWords + k) (linkWord u (topOf headBytes) v) (mapWords + j) (λ e. ne (omega arith)))
 
 module _ (w : ℕ) (a t : List ℕ) (k v : ℕ) (wide : Wide w a) (h : k < lists) (room : mapWords + lists ≤ length t) (l : ValidLink (grains w a) v) where
+  -- the head that is read again
   head-same : headAt (4 * w) (grains w a) (putHead (4 * w) t k v) k ≡ v
   unfolding headAt putHead
   head-same =
@@ -72,16 +90,17 @@ module _ (w : ℕ) (a t : List ℕ) (k v : ℕ) (wide : Wide w a) (h : k < lists
 
 module _ (w : ℕ) (a t : List ℕ) (g v : ℕ) (wide : Wide w a) (h : g < grains w a) (l : ValidLink (grains w a) v) where
   -- the field Next is the old one but for g
-  pub next-is : (y : ℕ) → nextAt w (putLink w a 2 g v) t y ≡ upd (nextAt w a t) g v y
+  pub next-is : (y : ℕ) → nextAt w (putLink w a Next g v) t y ≡ upd (nextAt w a t) g v y
   unfolding nextAt
-  next-is = changed-at (nextAt w a t) (nextAt w (putLink w a 2 g v) t) g v
-      (next-grain w (putLink w a 2 g v) t g (omega (arith, grains-none wide)) ∙ link-same w a 2 g v wide h (omega arith) l none)
-      λ y ne. rw (put-link-grains w a 2 g v, link-other w a 2 g v none y ne)
+  next-is = changed-at (nextAt w a t) (nextAt w (putLink w a Next g v) t) g v
+      (next-grain w (putLink w a Next g v) t g (omega (arith, grains-none wide)) ∙ link-same w a Next g v wide h (omega arith) l none)
+      λ y ne. rw (put-link-grains w a Next g v, link-other w a Next g v none y ne)
 
 -- ---- what else leaves the field alone
 
 -- other words of the arena
-pub next-keep : (w : ℕ) (a b t : List ℕ) (y : ℕ) → grains w b ≡ grains w a → linkAt w b 2 none y ≡ linkAt w a 2 none y → nextAt w b t y ≡ nextAt w a t y
+pub next-keep : (w : ℕ) (a b t : List ℕ) (y : ℕ) → grains w b ≡ grains w a
+    → linkAt w b Next none y ≡ linkAt w a Next none y → nextAt w b t y ≡ nextAt w a t y
 unfolding nextAt
 next-keep w a b t y e f = rw (e, f)
 

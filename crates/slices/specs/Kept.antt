@@ -1,8 +1,8 @@
 -- What a store leaves as it was: the four lengths, and with them what can be stored; and every byte of the arena outside
 -- the word.
-use Prim.Native.Nat.{ℕ, suc, _+_, _*_, _≤_, _<_}
+use Prim.Native.Nat.{ℕ, suc, _+_, _*_, _<_}
 use native.Mathlib.Omega.{arith}
-use mathlib.Core.Path.{_≡_, refl, _∙_, ap}
+use mathlib.Core.Path.{_≡_, refl, _∙_}
 use mathlib.Core.List.{List, [], _∷_, _++_}
 use mathlib.Core.Logic.{_⊎_, inl, inr}
 use lib.ListN.{length, getD}
@@ -12,10 +12,10 @@ use Rattle.table.specs.Table.{enter-length}
 use Rattle.bits.specs.TableBit.{set-table-length, clear-table-length}
 use Rattle.bits.specs.Map.{mark-length, unmark-length}
 use Rattle.script.specs.Memory.{Size, Before, Next, Prev, none, pick, Write}
-use Rattle.slices.specs.Decode.{grains, grains-keep}
+use Rattle.slices.specs.Decode.{grains-keep}
 use Rattle.slices.specs.Arena.{put-size-length, put-link-length, put-size-byte, put-link-byte}
 use Rattle.slices.specs.Heads.{put-head-length}
-use Rattle.slices.specs.Slices.{Slices, storeAt, store, stores, Fits, Valid, AllValid}
+use Rattle.slices.specs.Slices.{Slices, storeAt, store, stores, Valid, AllValid}
 use Rattle.slices.specs.Fields.{by-field}
 
 -- ---- lengths

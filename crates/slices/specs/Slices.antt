@@ -1,6 +1,6 @@
 -- The slices that a heap is lent, read as a memory (`memoryOf`), what is stored in them for a write (`store`), and which
 -- writes can be stored (`Valid`). The arena has words of w bytes.
-use Prim.Native.Nat.{ℕ, zero, suc, _+_, _-_, _*_, _^_, _≤_, _<_}
+use Prim.Native.Nat.{ℕ, suc, _+_, _-_, _*_, _^_, _≤_, _<_}
 use native.Mathlib.Omega.{arith}
 use mathlib.Core.Path.{_≡_, refl}
 use mathlib.Core.List.{List, [], _∷_}
@@ -25,7 +25,8 @@ pub record Slices : Type 0 where
 
 -- ---- read
 
-abbrev pub memoryOf : ℕ → Slices → Memory
+-- the memory that the slices hold
+unfoldable pub memoryOf : ℕ → Slices → Memory
 memoryOf w S f =
     pick f Size (sizeAt w (S .arena))
     (pick f Before (linkAt w (S .arena) Before wrongLink)
@@ -36,8 +37,40 @@ memoryOf w S f =
     (pick f Table (entry (S .regions))
     (λ _. 0)))))))
 
+module _ (w : ℕ) (S : Slices) (y : ℕ) where
+  -- the words of a grain
+  pub memory-size : memoryOf w S Size y ≡ sizeAt w (S .arena) y
+  unfolding memoryOf
+  memory-size = refl
+
+  pub memory-before : memoryOf w S Before y ≡ linkAt w (S .arena) Before wrongLink y
+  unfolding memoryOf
+  memory-before = refl
+
+  pub memory-next : memoryOf w S Next y ≡ nextAt w (S .arena) (S .lists) y
+  unfolding memoryOf
+  memory-next = refl
+
+  pub memory-prev : memoryOf w S Prev y ≡ linkAt w (S .arena) Prev wrongLink y
+  unfolding memoryOf
+  memory-prev = refl
+
+  -- the bits and entries of the tables
+  pub memory-mark : memoryOf w S Mark y ≡ mapBit (S .lists) y
+  unfolding memoryOf
+  memory-mark = refl
+
+  pub memory-live : memoryOf w S Live y ≡ tableBit (S .live) y
+  unfolding memoryOf
+  memory-live = refl
+
+  pub memory-table : memoryOf w S Table y ≡ entry (S .regions) y
+  unfolding memoryOf
+  memory-table = refl
+
 -- ---- stored
 
+-- the slices with another arena, other lists, live bits, regions
 abbrev pub withArena : Slices → List ℕ → Slices
 withArena S a = record { arena = a; lists = S .lists; live = S .live; regions = S .regions }
 
@@ -71,29 +104,35 @@ storeAt w S f y v =
     (pick f Table (withRegions S (enter (S .regions) y v))
     S))))))
 
+-- what is stored for a write
 abbrev pub store : ℕ → Slices → Write → Slices
 store w S x = storeAt w S (x .field) (x .place) (x .value)
 
+-- for one after the other
 abbrev pub stores : ℕ → Slices → List Write → Slices
 stores w S [] = S
 stores w S (x ∷ l) = stores w (store w S x) l
 
--- the two kinds of next
+-- ---- the two kinds of next
+
+-- of a root
 pub store-root : (w : ℕ) (S : Slices) (k v : ℕ) → withNext w S (root k) v ≡ withLists S (putHead (4 * w) (S .lists) k v)
 store-root w S k v =
+    let h : suc none ≤ root k = omega arith in
     let e : root k - suc none ≡ k = omega arith in
-    rw (le-yes (suc none) (root k) (S .arena) (putLink w (S .arena) Next (root k) v) (omega arith), le-yes (suc none) (root k) (putHead (4 * w) (S .lists) (root k - suc none) v) (S .lists) (omega arith), e)
+    simp (le-yes, e)
 
+-- of a grain
 pub store-next : (w : ℕ) (S : Slices) (g v : ℕ) → g ≤ none → withNext w S g v ≡ withArena S (putLink w (S .arena) Next g v)
-store-next w S g v h =
-    rw (le-no (suc none) g (S .arena) (putLink w (S .arena) Next g v) (omega arith), le-no (suc none) g (putHead (4 * w) (S .lists) (g - suc none) v) (S .lists) (omega arith))
+store-next w S g v h = let n : suc none ≤ g → ⊥ = omega arith in simp le-no
 
 -- ---- what can be stored
 
+-- a mark or a live bit
 abbrev pub Bit : ℕ → Type 0
 Bit v = (v ≡ 0) ⊎ (v ≡ 1)
 
--- a head of a list that the table t long has an entry for
+-- y is the root of a list, and the table, t long, has room for all heads
 pub record Root (t y : ℕ) : Type 0 where
   pub list : ℕ
   pub place : y ≡ root list
@@ -112,9 +151,11 @@ Fits n t live regions f y v =
     (pick f Table ((y < regions) × (v < 2 ^ 64))
     ⊥))))))
 
+-- a write that can be stored
 abbrev pub Valid : ℕ → Slices → Write → Type 0
 Valid w S x = Fits (grains w (S .arena)) (length (S .lists)) (length (S .live)) (length (S .regions)) (x .field) (x .place) (x .value)
 
+-- all of them
 abbrev pub AllValid : ℕ → Slices → List Write → Type 0
 AllValid w S [] = Unit {0}
 AllValid w S (x ∷ l) = Valid w S x × AllValid w S l

@@ -39,9 +39,11 @@ stores-memory w S (x ∷ l) k h =
     ∙ ap (λ (m : Memory). apply m l) (fun-ext (λ g. fun-ext (λ y. store-is w S x k (h .0) g y)))
 
 -- word by word
-pub stores-are : (w : ℕ) (S : Slices) (l : List Write) → Wide w (S .arena) → AllValid w S l → (g y : ℕ) → memoryOf w (stores w S l) g y ≡ apply (memoryOf w S) l g y
+pub stores-are : (w : ℕ) (S : Slices) (l : List Write) → Wide w (S .arena) → AllValid w S l
+    → (g y : ℕ) → memoryOf w (stores w S l) g y ≡ apply (memoryOf w S) l g y
 stores-are w S l k h g y = ap (λ (m : Memory). m g y) (stores-memory w S l k h)
 
 -- what the memory with the writes stands for, the slices stand for once they are stored
-pub sound-stored : (n c w : ℕ) (S : Slices) (l : List Write) (h : Heap) → Wide w (S .arena) → AllValid w S l → Sound n c (apply (memoryOf w S) l) h → Sound n c (memoryOf w (stores w S l)) h
+pub sound-stored : (n c w : ℕ) (S : Slices) (l : List Write) (h : Heap) → Wide w (S .arena) → AllValid w S l
+    → Sound n c (apply (memoryOf w S) l) h → Sound n c (memoryOf w (stores w S l)) h
 sound-stored n c w S l h k v s = subst (λ (m : Memory). Sound n c m h) (sym (stores-memory w S l k v)) s
