@@ -1,4 +1,4 @@
--- Recorded answers of rlsf 0.2.3 where document 01 says little, by computation. Bytes, half grains of 16; a refusal is
+-- Recorded answers of rlsf 0.2.3 where a description in words says little, by computation. Bytes, half grains of 16; a refusal is
 -- shown by its number, a granted return by 0.
 use Prim.Native.Nat.{ℕ, zero, suc, _*_}
 use mathlib.Core.Path.{_≡_, refl}
