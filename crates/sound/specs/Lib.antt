@@ -8,6 +8,8 @@ pub mod Plans
 pub mod RegionPlan
 pub mod Meets
 pub mod Constant
+pub mod Passed
+pub mod Checked
 pub mod Core
 pub mod Relists
 pub mod Leave
