@@ -10,6 +10,7 @@ pub mod Meets
 pub mod Constant
 pub mod Passed
 pub mod Checked
+pub mod TakeChecked
 pub mod Core
 pub mod Relists
 pub mod Leave

@@ -1,13 +1,14 @@
 -- What an answer tells of the smallest steps, on any memory: the way taken at a choice, what a size word says, where a
 -- link leads. The checks of `Checked` are inverted step by step with these.
-use Prim.Native.Nat.{ℕ, suc, _≤_, _<_}
+use Prim.Native.Nat.{ℕ, suc, _/_, _%_, _≤_, _<_}
 use native.Mathlib.Omega.{arith}
 use mathlib.Core.Path.{_≡_, ap, sym, _∙_}
 use mathlib.Core.Logic.{_⊎_, inl, inr}
 use Rattle.choice.specs.Choice.{ifEq, ifLe, eq-case, le-case}
-use Rattle.script.specs.Memory.{Memory}
-use Rattle.script.specs.Script.{Script, stop, ok, no, Gives, runs-stop, inv-get, inv-done, inv-eq, inv-le}
-use Rattle.sound.specs.Checks.{Word, isFree, isUsed, isLast, isBad, mustGrain, mustLead, asBusy, asFree, asUsed}
+use Rattle.bits.specs.First.{firstSet}
+use Rattle.script.specs.Memory.{Memory, Mark, lastWord}
+use Rattle.script.specs.Script.{Script, first, stop, ok, no, run, Gives, runs-stop, inv-get, inv-done, inv-eq, inv-le}
+use Rattle.sound.specs.Checks.{Word, isFree, isUsed, isLast, isBad, wordOf, mustGrain, mustLead, asBusy, asFree, asUsed}
 
 -- ---- choices
 
@@ -23,7 +24,26 @@ module _ {A : Type 0} (m : Memory) where
   pub inv-choice : (x y : ℕ) (s t : Script A) {a : A} → Gives m (ifLe x y s t) a → ((x ≤ y) × Gives m s a) ⊎ ((y < x) × Gives m t a)
   inv-choice x y s t {a} = le-case (λ (u : Script A). Gives m u a → ((x ≤ y) × Gives m s a) ⊎ ((y < x) × Gives m t a)) x y s t (λ e h. inl (e, h)) (λ e h. inr (e, h))
 
+  -- a search of the map
+  pub inv-first : (n x : ℕ) (k : ℕ → Script A) {a : A} → Gives m (first n x k) a → Gives m (k (firstSet (m Mark) n x)) a
+  unfolding run
+  inv-first n x k h = h
+
 -- ---- words and links
+
+-- a block has at least one grain
+abbrev pub Some : Word → Type 0
+Some (isFree s) = 1 ≤ s
+Some (isUsed s) = 1 ≤ s
+Some isLast = Unit {0}
+Some isBad = Unit {0}
+
+pub word-some : (v : ℕ) → Some (wordOf v)
+unfolding wordOf
+word-some v =
+    eq-case Some v lastWord _ _ (λ _. tt) λ _.
+    eq-case Some (v / 4) 0 _ _ (λ _. tt) λ n.
+    eq-case Some (v % 4) 0 _ _ (λ _. omega (arith, n)) λ _. eq-case Some (v % 4) 1 _ _ (λ _. omega (arith, n)) (λ _. tt)
 
 -- a used block's word, or a sentinel's
 abbrev pub Busy : Word → Type 0
