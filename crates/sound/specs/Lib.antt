@@ -11,6 +11,7 @@ pub mod Constant
 pub mod Passed
 pub mod Checked
 pub mod TakeChecked
+pub mod Writable
 pub mod Core
 pub mod Relists
 pub mod Leave
