@@ -12,6 +12,8 @@ pub mod Passed
 pub mod Checked
 pub mod TakeChecked
 pub mod Writable
+pub mod WritableCalls
+pub mod WritableResize
 pub mod Core
 pub mod Relists
 pub mod Leave
