@@ -8,12 +8,14 @@ pub mod Plans
 pub mod RegionPlan
 pub mod Meets
 pub mod Constant
-pub mod Passed
+pub mod Inverted
 pub mod Checked
 pub mod TakeChecked
 pub mod Writable
 pub mod WritableCalls
 pub mod WritableResize
+pub mod RegionChecked
+pub mod WritableRegion
 pub mod Core
 pub mod Relists
 pub mod Leave

@@ -14,7 +14,7 @@ use Rattle.script.specs.Script.{_>>=_, unlessLe, mustEq, Gives, inv-bind, inv-g
 use Rattle.sound.specs.Strung.{unlinkWrites}
 use Rattle.sound.specs.Checks.{isFree, wordOf, mustGrain, mustBack, asBusy, asFree}
 use Rattle.sound.specs.Plans.{Plan, leaveScript, padWrites, takeScript}
-use Rattle.sound.specs.Passed.{inv-first, Some, word-some, Busy, busy-checked, free-checked, grain-checked}
+use Rattle.sound.specs.Inverted.{inv-first, Some, word-some, Busy, busy-checked, free-checked, grain-checked}
 use Rattle.sound.specs.Checked.{Back, back-checked}
 
 -- list k has the head y, a free block of s grains; it leaves its list, and of what it doesn't keep a block is left, by w

@@ -14,7 +14,7 @@ use Rattle.sound.specs.Strung.{unlinkWrites, pushWrites}
 use Rattle.sound.specs.Checks.{Word, isFree, isUsed, isLast, isBad, wordOf, mustList, seeHead}
 use Rattle.sound.specs.Seen.{word-free, word-used, word-last}
 use Rattle.sound.specs.Plans.{leaveScript, wholeWrites, splitWrites, padWrites}
-use Rattle.sound.specs.Passed.{inv-if}
+use Rattle.sound.specs.Inverted.{inv-if}
 use Rattle.sound.specs.Checked.{HeadChecked, head-checked}
 
 -- ---- what a decoder shows: blocks end before the arena does, since a sentinel stands behind them

@@ -12,7 +12,7 @@ use Rattle.script.specs.Script.{over, over-run, Gives, inv-bind, inv-done}
 use Rattle.sound.specs.Checks.{isUsed, Beside, seeBehind, seeBefore, Owner, seeOwner}
 use Rattle.sound.specs.Plans.{Plan, padWrites, roomOf, leaves, bothLeave, leaveScript, takeScript, giveBackScript, elsewhereScript, downScript, moveScript, stretchScript, growScript, resizeScript}
 use Rattle.sound.specs.Constant.{back-reads}
-use Rattle.sound.specs.Passed.{inv-if, inv-choice}
+use Rattle.sound.specs.Inverted.{inv-if, inv-choice}
 use Rattle.sound.specs.Checked.{Found, behind-checked, before-checked, OwnerChecked, owner-checked}
 use Rattle.sound.specs.Writable.{Fits, Decoded, live, AllWritable, all-append, decoded-after, leave-writable, pad-writable}
 use Rattle.sound.specs.WritableCalls.{take-writable, take-answer, Joined, behind-joined, before-joined, behind-inside, before-meets, leaves-writable, both-writable, back-writable}
