@@ -8,7 +8,7 @@ use mathlib.Core.Logic.{_⊎_, inl, inr, ⊎-elim}
 use Rattle.choice.specs.Choice.{ifEq}
 use Rattle.class.specs.Class.{listOf}
 use Rattle.script.specs.Memory.{Memory, Size, Before, Next, Prev, Mark, Live, none, root}
-use Rattle.script.specs.Script.{done, _>>=_, unlessEq, mustEq, mustLe, mustDiffer, Gives, inv-bind, inv-get, inv-done, inv-eq, inv-le, inv-differ}
+use Rattle.script.specs.Script.{done, unlessEq, mustEq, mustLe, mustDiffer, Gives, inv-bind, inv-get, inv-done, inv-eq, inv-le, inv-differ}
 use Rattle.sound.specs.Checks.{Word, isFree, isUsed, isLast, isBad, wordOf, mustGrain, mustBack, asBusy, asUsed, mustList, Entry, seePrev, seeEntry, seeHead, Beside, nobody, somebody, asBehind, seeBehind, asBefore, seeBefore, Owner, blockOf, seeOwner}
 use Rattle.sound.specs.Inverted.{inv-stop, inv-if, Busy, busy-checked, used-checked, lead-checked, grain-checked}
 

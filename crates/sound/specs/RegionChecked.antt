@@ -3,12 +3,12 @@
 -- outside, overlaps, or must follow another and doesn't, with 4; a table that can't be right with 5.
 use Prim.Native.Nat.{ℕ, zero, suc, _+_, _-_, _*_, _≤_, _<_}
 use native.Mathlib.Omega.{arith}
-use mathlib.Core.Path.{_≡_, refl, ap, sym, _∙_, subst}
-use mathlib.Core.List.{List, [], _∷_, _++_}
+use mathlib.Core.Path.{_≡_, sym, subst}
+use mathlib.Core.List.{[], _∷_, _++_}
 use mathlib.Core.Logic.{_⊎_, inl, inr, ⊎-elim}
 use Rattle.choice.specs.Choice.{ifEq, ifLe, eq-case, le-case, le?}
-use Rattle.script.specs.Memory.{Memory, Table, Write, _at_≔_}
-use Rattle.script.specs.Script.{Script, done, stop, _>>=_, _>>_, unlessLe, mustEq, mustLe, Gives, inv-bind, inv-get, inv-done, inv-eq, inv-le}
+use Rattle.script.specs.Memory.{Memory, Table, _at_≔_}
+use Rattle.script.specs.Script.{stop, unlessLe, mustEq, mustLe, Gives, inv-bind, inv-get, inv-done, inv-eq, inv-le}
 use Rattle.sound.specs.Plans.{Plan}
 use Rattle.sound.specs.RegionPlan.{Looked, wrongOf, seeRegions, Layout, layScript, regionScript}
 use Rattle.sound.specs.RegionTable.{firstOf, endOf, Off}

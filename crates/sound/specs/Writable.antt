@@ -1,15 +1,14 @@
 -- Every planned write can be stored, on any memory that a decoder may show, damaged or not: its place is in the arena or in
 -- a table, and its value is a word of that field. So no plan writes outside, whatever the damage.
-use Prim.Native.Nat.{ℕ, zero, suc, _+_, _-_, _*_, _/_, _%_, _≤_, _<_}
+use Prim.Native.Nat.{ℕ, suc, _+_, _-_, _*_, _/_, _%_, _≤_, _<_}
 use native.Mathlib.Omega.{arith}
 use mathlib.Core.Path.{_≡_, refl, ap, sym, _∙_, subst}
 use mathlib.Core.List.{List, [], _∷_, _++_}
 use mathlib.Core.Logic.{_⊎_, inl, inr, ⊎-elim}
-use Rattle.choice.specs.Choice.{ifEq, eq-case, upd, upd-each}
+use Rattle.choice.specs.Choice.{eq-case, upd-each}
 use Rattle.class.specs.Class.{listOf}
 use Rattle.script.specs.Memory.{Memory, Size, Before, Next, Prev, Mark, Live, Table, none, root, freeWord, usedWord, lastWord, Write, _at_≔_, put, apply, latest}
 use Rattle.script.specs.Script.{Gives, inv-bind, inv-done, inv-le}
-use Rattle.sound.specs.Chain.{node}
 use Rattle.sound.specs.Strung.{unlinkWrites, pushWrites}
 use Rattle.sound.specs.Checks.{Word, isFree, isUsed, isLast, isBad, wordOf, mustList, seeHead}
 use Rattle.sound.specs.Seen.{word-free, word-used, word-last}
@@ -53,6 +52,26 @@ pub data Writable (n c : ℕ) : Write → Type 0 where
   mark : {k v : ℕ} → k < 16 * c → v ≤ 1 → Writable n c (Mark at k ≔ v)
   live : {q v : ℕ} → q ≤ 2 * n → v ≤ 1 → Writable n c (Live at q ≔ v)
   table : {i v : ℕ} → Writable n c (Table at i ≔ v)
+
+-- what a write's field tells of it
+module _ {n c x v : ℕ} where
+  pub size-in : Writable n c (Size at x ≔ v) → (x < n) × SizeWord n x v
+  size-in (size h s) = (h, s)
+
+  pub before-in : Writable n c (Before at x ≔ v) → (x < n) × Link n v
+  before-in (before h s) = (h, s)
+
+  pub next-in : Writable n c (Next at x ≔ v) → NextPlace n c x × Link n v
+  next-in (next h s) = (h, s)
+
+  pub prev-in : Writable n c (Prev at x ≔ v) → (x < n) × Link n v
+  prev-in (prev h s) = (h, s)
+
+  pub mark-in : Writable n c (Mark at x ≔ v) → (x < 16 * c) × (v ≤ 1)
+  mark-in (mark h s) = (h, s)
+
+  pub live-in : Writable n c (Live at x ≔ v) → (x ≤ 2 * n) × (v ≤ 1)
+  live-in (live h s) = (h, s)
 
 abbrev pub AllWritable : ℕ → ℕ → List Write → Type 0
 AllWritable n c [] = Unit {0}

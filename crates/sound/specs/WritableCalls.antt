@@ -1,19 +1,19 @@
 -- Take and return write only what can be stored, on any memory that a decoder may show; and a take's answer is inside the
 -- arena, behind a header.
-use Prim.Native.Nat.{ℕ, zero, suc, _+_, _-_, _*_, _/_, _%_, _≤_, _<_}
+use Prim.Native.Nat.{ℕ, suc, _+_, _-_, _*_, _≤_, _<_}
 use native.Mathlib.Omega.{arith}
-use mathlib.Core.Path.{_≡_, refl, ap, sym, _∙_, subst}
-use mathlib.Core.List.{List, [], _∷_, _++_}
+use mathlib.Core.Path.{_≡_, refl, sym, subst}
+use mathlib.Core.List.{List, _++_}
 use mathlib.Core.Logic.{_⊎_, inl, inr, ⊎-elim}
 use Rattle.class.specs.Class.{listOf}
 use Rattle.definition.specs.Calls.{place, keeps}
 use Rattle.definition.specs.Placing.{Align, align-pos, place-some, keeps-some, keeps-holds, keeps-wanted}
-use Rattle.script.specs.Memory.{Memory, Size, Before, Next, Prev, Live, none, root, freeWord, Write, _at_≔_, latest}
+use Rattle.script.specs.Memory.{Memory, Before, Next, none, root, freeWord, Write, latest}
 use Rattle.script.specs.Script.{Gives, inv-bind, inv-done, inv-le}
-use Rattle.sound.specs.Strung.{pushWrites, unlinkWrites}
-use Rattle.sound.specs.Checks.{isFree, isUsed, wordOf, mustList, Entry, seeHead, Beside, nobody, somebody, seeBehind, seeBefore, Owner, seeOwner}
+use Rattle.sound.specs.Strung.{pushWrites}
+use Rattle.sound.specs.Checks.{isUsed, mustList, Entry, seeHead, Beside, nobody, somebody, seeBehind, seeBefore, seeOwner}
 use Rattle.sound.specs.Plans.{Plan, padWrites, freeWrites, roomOf, leaves, afterwards, bothLeave, takeScript, joinScript, giveBackScript}
-use Rattle.sound.specs.Checked.{Back, EntryChecked, head-checked, BehindChecked, behind-checked, BeforeChecked, before-checked, OwnerChecked, owner-checked}
+use Rattle.sound.specs.Checked.{EntryChecked, head-checked, BehindChecked, behind-checked, BeforeChecked, before-checked, owner-checked}
 use Rattle.sound.specs.TakeChecked.{TakeChecked, take-checked}
 use Rattle.sound.specs.Writable.{Fits, Decoded, Link, free, size, before, live, AllWritable, all-append, next-after, prev-after, unlink-writable, push-writable, head-link, leave-writable, pad-writable}
 

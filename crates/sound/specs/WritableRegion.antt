@@ -1,10 +1,10 @@
 -- Giving a region writes only what can be stored, on any memory that a decoder may show: all its pieces are inside it, and
 -- the table has room for one more.
-use Prim.Native.Nat.{ℕ, zero, suc, _+_, _-_, _*_, _^_, _≤_, _<_, min}
+use Prim.Native.Nat.{ℕ, zero, suc, _+_, _-_, _^_, _≤_, min}
 use native.Mathlib.Omega.{arith}
 use lib.Pow.{pow-mono}
-use mathlib.Core.Path.{_≡_, refl, sym, _∙_, subst}
-use mathlib.Core.List.{List, [], _∷_, _++_}
+use mathlib.Core.Path.{refl, sym, _∙_, subst}
+use mathlib.Core.List.{List, [], _++_}
 use mathlib.Core.Logic.{_⊎_, inl, inr, ⊎-elim}
 use Rattle.class.specs.Class.{listOf, list-small}
 use Rattle.script.specs.Memory.{Memory, none, freeWord, lastWord, Write, apply}
@@ -14,7 +14,7 @@ use Rattle.sound.specs.Plans.{Plan}
 use Rattle.sound.specs.RegionPlan.{pieceWrites, Layout, layScript, regionScript}
 use Rattle.sound.specs.Inverted.{inv-choice}
 use Rattle.sound.specs.Checked.{head-checked}
-use Rattle.sound.specs.RegionChecked.{RegionChecked, region-checked}
+use Rattle.sound.specs.RegionChecked.{region-checked}
 use Rattle.sound.specs.Writable.{Link, free, last, size, before, table, AllWritable, all-append, push-writable, head-link}
 
 module _ (n c : ℕ) (some : 1 ≤ c) where

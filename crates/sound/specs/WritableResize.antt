@@ -1,19 +1,19 @@
 -- Resize writes only what can be stored, on any memory that a decoder may show, in each of its steps; the answer is inside
 -- the arena.
-use Prim.Native.Nat.{ℕ, zero, suc, _+_, _-_, _*_, _/_, _%_, _≤_, _<_}
+use Prim.Native.Nat.{ℕ, _+_, _-_, _*_, _≤_}
 use native.Mathlib.Omega.{arith}
-use mathlib.Core.Path.{_≡_, refl, ap, sym, _∙_, subst}
-use mathlib.Core.List.{List, [], _∷_, _++_}
+use mathlib.Core.Path.{sym, _∙_, subst}
+use mathlib.Core.List.{List}
 use mathlib.Core.Logic.{_⊎_, inl, inr, ⊎-elim}
 use Rattle.definition.specs.Calls.{place, keeps}
 use Rattle.definition.specs.Placing.{Align, align-pos, place-some, keeps-some, keeps-holds}
-use Rattle.script.specs.Memory.{Memory, Live, Write, _at_≔_, apply}
+use Rattle.script.specs.Memory.{Memory, Write, apply}
 use Rattle.script.specs.Script.{over, over-run, Gives, inv-bind, inv-done}
-use Rattle.sound.specs.Checks.{isUsed, Beside, seeBehind, seeBefore, Owner, seeOwner}
+use Rattle.sound.specs.Checks.{isUsed, Beside, seeBehind, seeBefore, seeOwner}
 use Rattle.sound.specs.Plans.{Plan, padWrites, roomOf, leaves, bothLeave, leaveScript, takeScript, giveBackScript, elsewhereScript, downScript, moveScript, stretchScript, growScript, resizeScript}
 use Rattle.sound.specs.Constant.{back-reads}
 use Rattle.sound.specs.Inverted.{inv-if, inv-choice}
-use Rattle.sound.specs.Checked.{Found, behind-checked, before-checked, OwnerChecked, owner-checked}
+use Rattle.sound.specs.Checked.{Found, behind-checked, before-checked, owner-checked}
 use Rattle.sound.specs.Writable.{Fits, Decoded, live, AllWritable, all-append, decoded-after, leave-writable, pad-writable}
 use Rattle.sound.specs.WritableCalls.{take-writable, take-answer, Joined, behind-joined, before-joined, behind-inside, before-meets, leaves-writable, both-writable, back-writable}
 
