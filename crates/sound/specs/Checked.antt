@@ -10,7 +10,7 @@ use Rattle.class.specs.Class.{listOf}
 use Rattle.script.specs.Memory.{Memory, Size, Before, Next, Prev, Mark, Live, none, root}
 use Rattle.script.specs.Script.{done, unlessEq, mustEq, mustLe, mustDiffer, Gives, inv-bind, inv-get, inv-done, inv-eq, inv-le, inv-differ}
 use Rattle.sound.specs.Checks.{Word, isFree, isUsed, isLast, isBad, wordOf, mustGrain, mustBack, asBusy, asUsed, mustList, Entry, seePrev, seeEntry, seeHead, Beside, nobody, somebody, asBehind, seeBehind, asBefore, seeBefore, Owner, blockOf, seeOwner}
-use Rattle.sound.specs.Inverted.{inv-stop, inv-if, Busy, busy-checked, used-checked, lead-checked, grain-checked}
+use Rattle.sound.specs.Inverted.{inv-stop, inv-if-eq, Busy, busy-checked, used-checked, lead-checked, grain-checked}
 
 -- ---- links
 
@@ -22,7 +22,7 @@ pub back-checked : (n : ℕ) (m : Memory) (f x y : ℕ) {u : Unit {0}} → Gives
 back-checked n m f x y h = ⊎-elim
     (λ i. inl (i .0))
     (λ i. let g = inv-bind m (mustGrain n x) _ (i .1) in inr (grain-checked m n x (g .1), lead-checked m f x y (g .2)))
-    (inv-if m x none _ _ h)
+    (inv-if-eq m x none _ _ h)
 
 -- ---- entries of the lists
 
@@ -45,7 +45,7 @@ prev-checked n m k y p h = ⊎-elim
     let b = inv-bind m (mustDiffer (m Next (root k)) y) _ (a .2) in
     let d = inv-bind m (mustGrain n p) _ (b .2) in
     inr (grain-checked m n _ (a .1), inv-differ m _ _ (b .1), grain-checked m n p (d .1), lead-checked m Next p y (d .2)))
-    (inv-if m p none _ _ h)
+    (inv-if-eq m p none _ _ h)
 
 pub entry-checked : (n : ℕ) (m : Memory) (k y : ℕ) (e : Entry) → Gives m (seeEntry n k y) e → EntryChecked n m k y e
 unfolding seeEntry
@@ -80,7 +80,7 @@ head-checked n m k h g =
           let b = inv-bind m (mustGrain n r) _ (i .1) in
           let d = inv-bind m (mustEq (m Mark k) 1) _ (b .2) in
           inr (grain-checked m n r (b .1), inv-eq m 5 (m Mark k) 1 (d .1), lead-checked m Prev r none (d .2)))
-          (inv-if m r none _ _ (a .1));
+          (inv-if-eq m r none _ _ (a .1));
     })
 
 -- ---- the blocks beside a used one
@@ -148,7 +148,7 @@ before-checked n c m x b h = ⊎-elim
     (λ i.
     let a = inv-bind m (mustLe (suc (m Before x)) x) _ (i .1) in
     go (omega (arith, inv-le m 5 (suc (m Before x)) x (a .1))) (wordOf (m Size (m Before x))) refl (inv-get m Size (m Before x) _ (a .2)))
-    (inv-if m (m Before x) none _ _ (inv-get m Before x _ h))
+    (inv-if-eq m (m Before x) none _ _ (inv-get m Before x _ h))
   where
     go : m Before x < x → (w : Word) → wordOf (m Size (m Before x)) ≡ w → Gives m (asBefore n c x (m Before x) w) b → BeforeChecked n c m x b
     go l (isFree t) q g =
@@ -192,7 +192,7 @@ block-checked m q x h = ⊎-elim
     let a = inv-bind m (mustLe (suc z) (q / 2)) _ (inv-get m Prev (q / 2 - 1) _ (i .1)) in
     let e = inv-done m z x (a .2) in
     inr (i .0, sym e, omega (arith, inv-le m 5 (suc z) (q / 2) (a .1))))
-    (inv-if m (q % 2) 1 _ _ h)
+    (inv-if-eq m (q % 2) 1 _ _ h)
 
 pub owner-checked : (m : Memory) (q : ℕ) (o : Owner) → Gives m (seeOwner q) o → OwnerChecked m q o
 unfolding seeOwner

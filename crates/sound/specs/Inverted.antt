@@ -17,12 +17,12 @@ module _ {A : Type 0} (m : Memory) where
   pub inv-stop : (r : ℕ) {a : A} → Gives m (stop r) a → ⊥
   inv-stop r {a} h = let g : no r ≡ ok a = sym (runs-stop m r) ∙ h in let z : _≡_ {A = ℕ} 0 1 = cc in omega arith
 
-  -- the way that was taken
-  pub inv-if : (x y : ℕ) (s t : Script A) {a : A} → Gives m (ifEq x y s t) a → ((x ≡ y) × Gives m s a) ⊎ ((x ≡ y → ⊥) × Gives m t a)
-  inv-if x y s t {a} = eq-case (λ (u : Script A). Gives m u a → ((x ≡ y) × Gives m s a) ⊎ ((x ≡ y → ⊥) × Gives m t a)) x y s t (λ e h. inl (e, h)) (λ e h. inr (e, h))
+  -- the way that was taken, where two numbers are compared
+  pub inv-if-eq : (x y : ℕ) (s t : Script A) {a : A} → Gives m (ifEq x y s t) a → ((x ≡ y) × Gives m s a) ⊎ ((x ≡ y → ⊥) × Gives m t a)
+  inv-if-eq x y s t {a} = eq-case (λ (u : Script A). Gives m u a → ((x ≡ y) × Gives m s a) ⊎ ((x ≡ y → ⊥) × Gives m t a)) x y s t (λ e h. inl (e, h)) (λ e h. inr (e, h))
 
-  pub inv-choice : (x y : ℕ) (s t : Script A) {a : A} → Gives m (ifLe x y s t) a → ((x ≤ y) × Gives m s a) ⊎ ((y < x) × Gives m t a)
-  inv-choice x y s t {a} = le-case (λ (u : Script A). Gives m u a → ((x ≤ y) × Gives m s a) ⊎ ((y < x) × Gives m t a)) x y s t (λ e h. inl (e, h)) (λ e h. inr (e, h))
+  pub inv-if-le : (x y : ℕ) (s t : Script A) {a : A} → Gives m (ifLe x y s t) a → ((x ≤ y) × Gives m s a) ⊎ ((y < x) × Gives m t a)
+  inv-if-le x y s t {a} = le-case (λ (u : Script A). Gives m u a → ((x ≤ y) × Gives m s a) ⊎ ((y < x) × Gives m t a)) x y s t (λ e h. inl (e, h)) (λ e h. inr (e, h))
 
   -- a search of the map
   pub inv-first : (n x : ℕ) (k : ℕ → Script A) {a : A} → Gives m (first n x k) a → Gives m (k (firstSet (m Mark) n x)) a
@@ -38,6 +38,7 @@ Some (isUsed s) = 1 ≤ s
 Some isLast = Unit {0}
 Some isBad = Unit {0}
 
+-- as every word says that is one
 pub word-some : (v : ℕ) → Some (wordOf v)
 unfolding wordOf
 word-some v =

@@ -11,10 +11,12 @@ pub mod Constant
 pub mod Inverted
 pub mod Checked
 pub mod TakeChecked
+pub mod RegionChecked
+pub mod Refused
+pub mod RefusedCalls
 pub mod Writable
 pub mod WritableCalls
 pub mod WritableResize
-pub mod RegionChecked
 pub mod WritableRegion
 pub mod Core
 pub mod Relists

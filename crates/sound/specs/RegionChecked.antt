@@ -12,7 +12,7 @@ use Rattle.script.specs.Script.{stop, unlessLe, mustEq, mustLe, Gives, inv-bind
 use Rattle.sound.specs.Plans.{Plan}
 use Rattle.sound.specs.RegionPlan.{Looked, wrongOf, seeRegions, Layout, layScript, regionScript}
 use Rattle.sound.specs.RegionTable.{firstOf, endOf, Off}
-use Rattle.sound.specs.Inverted.{inv-stop, inv-if, inv-choice}
+use Rattle.sound.specs.Inverted.{inv-stop, inv-if-eq, inv-if-le}
 
 -- region j is one of an arena of n grains
 abbrev pub Right : ℕ → Memory → ℕ → Type 0
@@ -42,7 +42,7 @@ module _ (n g len : ℕ) (m : Memory) where
     met = λ e. inl e;
   })
   looked-checked (suc r) i l v h = let k = inv-bind m (ifLe (endOf m i) g _ _) _ (inv-get m Table (2 * i + 2) _ (inv-get m Table (2 * i + 1) _ h)) in
-      go (⊎-elim (λ a. inl (a .0)) (λ a. inr (inv-le m 4 (g + len) (firstOf m i) (a .1))) (inv-choice m (endOf m i) g _ _ (k .1))) (looked-checked r (suc i) _ v (k .2))
+      go (⊎-elim (λ a. inl (a .0)) (λ a. inr (inv-le m 4 (g + len) (firstOf m i) (a .1))) (inv-if-le m (endOf m i) g _ _ (k .1))) (looked-checked r (suc i) _ v (k .2))
     where
       next : Looked
       next = record { meets = ifEq (endOf m i) g 1 (l .meets); wrong = wrongOf n (firstOf m i) (endOf m i) (l .wrong) }
@@ -91,7 +91,7 @@ region-checked most behind n c g len m t h =
     let i5 = inv-bind m (unlessLe 4 behind (i4 .0 .meets)) _ (i4 .2) in
     let i6 = inv-bind m (mustEq (i4 .0 .wrong) 0) _ (i5 .2) in
     let i7 = inv-bind m (layScript n c len [] g len) _ (i6 .2) in
-    let ne : r ≡ most → ⊥ = ⊎-elim (λ a. absurd (inv-stop m 6 (a .1))) (λ a. a .0) (inv-if m r most _ _ (i0 .1)) in
+    let ne : r ≡ most → ⊥ = ⊎-elim (λ a. absurd (inv-stop m 6 (a .1))) (λ a. a .0) (inv-if-eq m r most _ _ (i0 .1)) in
     let l = looked-checked n g len m r 0 (record { meets = 0; wrong = 0 }) (i4 .0) (i4 .1) in
     let e = inv-eq m 5 (i4 .0 .wrong) 0 (i6 .1) in
     record {

@@ -13,7 +13,7 @@ use Rattle.sound.specs.Strung.{unlinkWrites, pushWrites}
 use Rattle.sound.specs.Checks.{Word, isFree, isUsed, isLast, isBad, wordOf, mustList, seeHead}
 use Rattle.sound.specs.Seen.{word-free, word-used, word-last}
 use Rattle.sound.specs.Plans.{leaveScript, wholeWrites, splitWrites, padWrites}
-use Rattle.sound.specs.Inverted.{inv-if}
+use Rattle.sound.specs.Inverted.{inv-if-eq}
 use Rattle.sound.specs.Checked.{HeadChecked, head-checked}
 
 -- ---- what a decoder shows: blocks end before the arena does, since a sentinel stands behind them
@@ -35,9 +35,9 @@ Link n v = (v ≡ none) ⊎ (v < n)
 
 -- a size word for the grain x
 pub data SizeWord (n x v : ℕ) : Type 0 where
-  free : (s : ℕ) → v ≡ freeWord s → 1 ≤ s → x + s + 1 ≤ n → SizeWord n x v
-  used : (s : ℕ) → v ≡ usedWord s → 1 ≤ s → x + s + 1 ≤ n → SizeWord n x v
-  last : v ≡ lastWord → SizeWord n x v
+  freeSize : (s : ℕ) → v ≡ freeWord s → 1 ≤ s → x + s + 1 ≤ n → SizeWord n x v
+  usedSize : (s : ℕ) → v ≡ usedWord s → 1 ≤ s → x + s + 1 ≤ n → SizeWord n x v
+  sentinel : v ≡ lastWord → SizeWord n x v
 
 -- where a next link stands: at a grain, or at a list's root
 abbrev pub NextPlace : ℕ → ℕ → ℕ → Type 0
@@ -45,93 +45,97 @@ NextPlace n c x = (x < n) ⊎ ((k : ℕ) × (x ≡ root k) × (k < 16 * c))
 
 -- by the field; the table is the region script's, which knows its length
 pub data Writable (n c : ℕ) : Write → Type 0 where
-  size : {x v : ℕ} → x < n → SizeWord n x v → Writable n c (Size at x ≔ v)
-  before : {x v : ℕ} → x < n → Link n v → Writable n c (Before at x ≔ v)
-  next : {x v : ℕ} → NextPlace n c x → Link n v → Writable n c (Next at x ≔ v)
-  prev : {x v : ℕ} → x < n → Link n v → Writable n c (Prev at x ≔ v)
-  mark : {k v : ℕ} → k < 16 * c → v ≤ 1 → Writable n c (Mark at k ≔ v)
-  live : {q v : ℕ} → q ≤ 2 * n → v ≤ 1 → Writable n c (Live at q ≔ v)
-  table : {i v : ℕ} → Writable n c (Table at i ≔ v)
+  atSize : {x v : ℕ} → x < n → SizeWord n x v → Writable n c (Size at x ≔ v)
+  atBefore : {x v : ℕ} → x < n → Link n v → Writable n c (Before at x ≔ v)
+  atNext : {x v : ℕ} → NextPlace n c x → Link n v → Writable n c (Next at x ≔ v)
+  atPrev : {x v : ℕ} → x < n → Link n v → Writable n c (Prev at x ≔ v)
+  atMark : {k v : ℕ} → k < 16 * c → v ≤ 1 → Writable n c (Mark at k ≔ v)
+  atLive : {q v : ℕ} → q ≤ 2 * n → v ≤ 1 → Writable n c (Live at q ≔ v)
+  atTable : {i v : ℕ} → Writable n c (Table at i ≔ v)
 
 -- what a write's field tells of it
 module _ {n c x v : ℕ} where
   pub size-in : Writable n c (Size at x ≔ v) → (x < n) × SizeWord n x v
-  size-in (size h s) = (h, s)
+  size-in (atSize h s) = (h, s)
 
   pub before-in : Writable n c (Before at x ≔ v) → (x < n) × Link n v
-  before-in (before h s) = (h, s)
+  before-in (atBefore h s) = (h, s)
 
   pub next-in : Writable n c (Next at x ≔ v) → NextPlace n c x × Link n v
-  next-in (next h s) = (h, s)
+  next-in (atNext h s) = (h, s)
 
   pub prev-in : Writable n c (Prev at x ≔ v) → (x < n) × Link n v
-  prev-in (prev h s) = (h, s)
+  prev-in (atPrev h s) = (h, s)
 
   pub mark-in : Writable n c (Mark at x ≔ v) → (x < 16 * c) × (v ≤ 1)
-  mark-in (mark h s) = (h, s)
+  mark-in (atMark h s) = (h, s)
 
   pub live-in : Writable n c (Live at x ≔ v) → (x ≤ 2 * n) × (v ≤ 1)
-  live-in (live h s) = (h, s)
+  live-in (atLive h s) = (h, s)
 
+-- all writes of a list
 abbrev pub AllWritable : ℕ → ℕ → List Write → Type 0
 AllWritable n c [] = Unit {0}
 AllWritable n c (w ∷ l) = Writable n c w × AllWritable n c l
 
+-- two lists of writes
 pub all-append : (n c : ℕ) (p q : List Write) → AllWritable n c p → AllWritable n c q → AllWritable n c (p ++ q)
 all-append n c [] q a b = b
 all-append n c (w ∷ p) q a b = (a .0, all-append n c p q (a .1) b)
 
 -- ---- what such writes leave
 
--- a memory that a decoder may show
 module _ (n c : ℕ) where
+  -- a size word that can be stored is decoded as it should be
   word-fits : (x v : ℕ) → x < n → SizeWord n x v → Fits n x (wordOf v)
-  word-fits x v h (free s e a b) = subst (Fits n x) (sym (ap wordOf e ∙ word-free s a)) (a, b)
-  word-fits x v h (used s e a b) = subst (Fits n x) (sym (ap wordOf e ∙ word-used s a)) (a, b)
-  word-fits x v h (last e) = subst (Fits n x) (sym (ap wordOf e ∙ word-last)) h
+  word-fits x v h (freeSize s e a b) = subst (Fits n x) (sym (ap wordOf e ∙ word-free s a)) (a, b)
+  word-fits x v h (usedSize s e a b) = subst (Fits n x) (sym (ap wordOf e ∙ word-used s a)) (a, b)
+  word-fits x v h (sentinel e) = subst (Fits n x) (sym (ap wordOf e ∙ word-last)) h
 
+  -- what a decoder may show stays so
   decoded-put : (m : Memory) (w : Write) → Decoded n m → Writable n c w → Decoded n (put m w)
-  decoded-put m w d (size {x} {v} h s) = upd-each (λ y u. Fits n y (wordOf u)) (m Size) x v (word-fits x v h s) (λ y _. d y)
-  decoded-put m w d (before h s) = d
-  decoded-put m w d (next h s) = d
-  decoded-put m w d (prev h s) = d
-  decoded-put m w d (mark h s) = d
-  decoded-put m w d (live h s) = d
-  decoded-put m w d table = d
+  decoded-put m w d (atSize {x} {v} h s) = upd-each (λ y u. Fits n y (wordOf u)) (m Size) x v (word-fits x v h s) (λ y _. d y)
+  decoded-put m w d (atBefore h s) = d
+  decoded-put m w d (atNext h s) = d
+  decoded-put m w d (atPrev h s) = d
+  decoded-put m w d (atMark h s) = d
+  decoded-put m w d (atLive h s) = d
+  decoded-put m w d atTable = d
 
   pub decoded-after : (m : Memory) (l : List Write) → Decoded n m → AllWritable n c l → Decoded n (apply m l)
   decoded-after m [] d a = d
   decoded-after m (w ∷ l) d a = decoded-after (put m w) l (decoded-put m w d (a .0)) (a .1)
 
-  -- a link stays a link
+  -- a link stays a link, whatever is written: a next one, and a previous one
   pub next-after : (l : List Write) (y v : ℕ) → AllWritable n c l → Link n v → Link n (latest l Next y v)
   next-after [] y v a k = k
   next-after (w ∷ l) y v a k = next-after l y _ (a .1) (one w (a .0))
     where
       one : (w : Write) → Writable n c w → Link n (latest (w ∷ []) Next y v)
-      one w (size h s) = k
-      one w (before h s) = k
-      one w (next {x} {v = u} h s) = eq-case (Link n) y x u v (λ _. s) (λ _. k)
-      one w (prev h s) = k
-      one w (mark h s) = k
-      one w (live h s) = k
-      one w table = k
+      one w (atSize h s) = k
+      one w (atBefore h s) = k
+      one w (atNext {x} {v = u} h s) = eq-case (Link n) y x u v (λ _. s) (λ _. k)
+      one w (atPrev h s) = k
+      one w (atMark h s) = k
+      one w (atLive h s) = k
+      one w atTable = k
 
   pub prev-after : (l : List Write) (y v : ℕ) → AllWritable n c l → Link n v → Link n (latest l Prev y v)
   prev-after [] y v a k = k
   prev-after (w ∷ l) y v a k = prev-after l y _ (a .1) (one w (a .0))
     where
       one : (w : Write) → Writable n c w → Link n (latest (w ∷ []) Prev y v)
-      one w (size h s) = k
-      one w (before h s) = k
-      one w (next h s) = k
-      one w (prev {x} {v = u} h s) = eq-case (Link n) y x u v (λ _. s) (λ _. k)
-      one w (mark h s) = k
-      one w (live h s) = k
-      one w table = k
+      one w (atSize h s) = k
+      one w (atBefore h s) = k
+      one w (atNext h s) = k
+      one w (atPrev {x} {v = u} h s) = eq-case (Link n) y x u v (λ _. s) (λ _. k)
+      one w (atMark h s) = k
+      one w (atLive h s) = k
+      one w atTable = k
 
   -- ---- parts of plans
 
+  -- a link that isn't none
   pub link-grain : (v : ℕ) → Link n v → (v ≡ none → ⊥) → v < n
   link-grain v (inl e) ne = absurd (ne e)
   link-grain v (inr h) ne = h
@@ -139,20 +143,20 @@ module _ (n c : ℕ) where
   -- a block leaves its list
   pub unlink-writable : (k x p : ℕ) → k < 16 * c → Link n x → Link n p → AllWritable n c (unlinkWrites k x p)
   unlink-writable k x p h a b = (
-    next (eq-case (NextPlace n c) p none (root k) p (λ _. inr (k, refl, h)) (λ ne. inl (link-grain p b ne))) a,
+    atNext (eq-case (NextPlace n c) p none (root k) p (λ _. inr (k, refl, h)) (λ ne. inl (link-grain p b ne))) a,
     eq-case (AllWritable n c) x none _ _
-      (λ _. eq-case (AllWritable n c) p none _ _ (λ _. (mark h (omega arith), tt)) (λ _. tt))
-      (λ ne. (prev (link-grain x a ne) b, tt)),
+        (λ _. eq-case (AllWritable n c) p none _ _ (λ _. (atMark h (omega arith), tt)) (λ _. tt))
+        (λ ne. (atPrev (link-grain x a ne) b, tt)),
   )
 
   -- a block goes to the head of a list
   pub push-writable : (k y h : ℕ) → k < 16 * c → y < n → Link n h → AllWritable n c (pushWrites k y h)
   push-writable k y h i j a = eq-case (AllWritable n c) h none _ _
-      (λ _. (mark i (omega arith), rest))
-      (λ ne. (prev (link-grain h a ne) (inr j), rest))
+      (λ _. (atMark i (omega arith), rest))
+      (λ ne. (atPrev (link-grain h a ne) (inr j), rest))
     where
       rest : AllWritable n c ((Prev at y ≔ none) ∷ (Next at y ≔ h) ∷ (Next at root k ≔ y) ∷ [])
-      rest = (prev j (inl refl), (next (inl j) a, (next (inr (k, refl, i)) (inr j), tt)))
+      rest = (atPrev j (inl refl), (atNext (inl j) a, (atNext (inr (k, refl, i)) (inr j), tt)))
 
   -- a head that was seen is a link
   pub head-link : (m : Memory) (k h : ℕ) → HeadChecked n m k h → Link n h
@@ -168,16 +172,18 @@ module _ (n c : ℕ) where
       let b = inv-bind m (mustList c (t - k)) _ (i .1) in
       let d = inv-bind m (seeHead n (listOf (t - k))) _ (b .2) in
       subst (AllWritable n c) (inv-done m _ v (d .2)) (rest (i .0) (inv-le m 5 (suc (listOf (t - k))) (16 * c) (b .1)) (d .0) (head-link m _ _ (head-checked n m _ _ (d .1)))))
-      (inv-if m k t _ _ g)
+      (inv-if-eq m k t _ _ g)
     where
       whole : k ≡ t → AllWritable n c (wholeWrites x t)
-      whole e = (size {x = x} {v = usedWord t} (omega arith) (used t refl (omega arith) (omega arith)), (before {x = x + t} {v = x} (omega arith) (inr (omega arith)), tt))
+      whole e = (atSize {x = x} {v = usedWord t} (omega arith) (usedSize t refl (omega arith) (omega arith)), (atBefore {x = x + t} {v = x} (omega arith) (inr (omega arith)), tt))
 
       split : (k ≡ t → ⊥) → AllWritable n c (splitWrites x t k)
       split ne = (
-        size {x = x} {v = usedWord k} (omega arith) (used k refl (omega arith) (omega arith)),
-        (size {x = x + k} {v = freeWord (t - k)} (omega arith) (free (t - k) refl (omega (arith, ne)) (omega arith)),
-        (before {x = x + k} {v = x} (omega arith) (inr (omega arith)), (before {x = x + t} {v = x + k} (omega arith) (inr (omega arith)), tt))),
+        atSize {x = x} {v = usedWord k} (omega arith) (usedSize k refl (omega arith) (omega arith)),
+        (
+          atSize {x = x + k} {v = freeWord (t - k)} (omega arith) (freeSize (t - k) refl (omega (arith, ne)) (omega arith)),
+          (atBefore {x = x + k} {v = x} (omega arith) (inr (omega arith)), (atBefore {x = x + t} {v = x + k} (omega arith) (inr (omega arith)), tt)),
+        ),
       )
 
       rest : (k ≡ t → ⊥) → suc (listOf (t - k)) ≤ 16 * c → (u : ℕ) → Link n u
@@ -188,4 +194,4 @@ module _ (n c : ℕ) where
 
   -- the word before a payload that stands at a grain
   pub pad-writable : (x d k : ℕ) → 1 ≤ d → d ≤ 2 * k → x + k + 1 ≤ n → AllWritable n c (padWrites x d)
-  pad-writable x d k p l h = eq-case (AllWritable n c) (d % 2) 0 _ _ (λ _. (prev {x = x + d / 2 - 1} {v = x} (omega arith) (inr (omega arith)), tt)) (λ _. tt)
+  pad-writable x d k p l h = eq-case (AllWritable n c) (d % 2) 0 _ _ (λ _. (atPrev {x = x + d / 2 - 1} {v = x} (omega arith) (inr (omega arith)), tt)) (λ _. tt)

@@ -15,7 +15,7 @@ use Rattle.sound.specs.Checks.{isUsed, mustList, Entry, seeHead, Beside,
 use Rattle.sound.specs.Plans.{Plan, padWrites, freeWrites, roomOf, leaves, afterwards, bothLeave, takeScript, joinScript, giveBackScript}
 use Rattle.sound.specs.Checked.{EntryChecked, head-checked, BehindChecked, behind-checked, BeforeChecked, before-checked, owner-checked}
 use Rattle.sound.specs.TakeChecked.{TakeChecked, take-checked}
-use Rattle.sound.specs.Writable.{Fits, Decoded, Link, free, size, before, live, AllWritable, all-append, next-after, prev-after, unlink-writable, push-writable, head-link, leave-writable, pad-writable}
+use Rattle.sound.specs.Writable.{Fits, Decoded, Link, freeSize, atSize, atBefore, atLive, AllWritable, all-append, next-after, prev-after, unlink-writable, push-writable, head-link, leave-writable, pad-writable}
 
 -- ---- take
 
@@ -55,7 +55,7 @@ module _ (n c p a : ℕ) (m : Memory) (t : Plan) (d : Decoded n m) (al : Align a
       (placed .keeps-one) (placed .within) (placed .inside) (seen .left))
       (all-append n c (padWrites y e) _
       (pad-writable n c y e (seen .s) (placed .some) (placed .low) (placed .inside))
-      (live {q = 2 * y + e} (omega (arith, placed .low, placed .inside)) (omega arith), tt)))
+      (atLive {q = 2 * y + e} (omega (arith, placed .low, placed .inside)) (omega arith), tt)))
 
   pub take-answer : (1 ≤ t .answer) × (t .answer ≤ 2 * n)
   take-answer = subst (λ (u : Plan). (1 ≤ u .answer) × (u .answer ≤ 2 * n)) (sym (seen .plan))
@@ -119,7 +119,7 @@ module _ (n c : ℕ) where
       subst (λ (u : Plan). AllWritable n c (u .writes)) (inv-done m _ v (j .2))
       (all-append n c (w ++ pushWrites (listOf t) z (latest w Next (root (listOf t)) (j .0))) (freeWrites q z t)
       (all-append n c w _ a (push-writable n c (listOf t) z _ k (omega arith) f))
-      (size {x = z} {v = freeWord t} (omega arith) (free t refl p h), (before {x = z + t} {v = z} (omega arith) (inr (omega arith)), (live {q = q} l (omega arith), tt))))
+      (atSize {x = z} {v = freeWord t} (omega arith) (freeSize t refl p h), (atBefore {x = z + t} {v = z} (omega arith) (inr (omega arith)), (atLive {q = q} l (omega arith), tt))))
 
   pub back-writable : (q : ℕ) (m : Memory) (t : Plan) → Decoded n m → Gives m (giveBackScript n c q) t → AllWritable n c (t .writes)
   unfolding giveBackScript

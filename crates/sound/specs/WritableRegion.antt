@@ -12,20 +12,26 @@ use Rattle.script.specs.Script.{over, over-run, Gives, inv-bind, inv-done}
 use Rattle.sound.specs.Checks.{seeHead, few-head}
 use Rattle.sound.specs.Plans.{Plan}
 use Rattle.sound.specs.RegionPlan.{pieceWrites, Layout, layScript, regionScript}
-use Rattle.sound.specs.Inverted.{inv-choice}
+use Rattle.sound.specs.Inverted.{inv-if-le}
 use Rattle.sound.specs.Checked.{head-checked}
 use Rattle.sound.specs.RegionChecked.{region-checked}
-use Rattle.sound.specs.Writable.{Link, free, last, size, before, table, AllWritable, all-append, push-writable, head-link}
+use Rattle.sound.specs.Writable.{Link, freeSize, sentinel, atSize, atBefore, atTable, AllWritable, all-append, push-writable, head-link}
 
 module _ (n c : ℕ) (some : 1 ≤ c) where
   -- a piece of k grains at x
   piece-writable : (x k h : ℕ) → 2 ≤ k → k ≤ 2 ^ c → x + k ≤ n → Link n h → AllWritable n c (pieceWrites x k h)
   piece-writable x k h a b e l = (
-    size {x = x} {v = freeWord (k - 1)} (omega arith) (free (k - 1) refl (omega arith) (omega arith)),
-    (before {x = x} {v = none} (omega arith) (inl refl),
-    (size {x = x + (k - 1)} {v = lastWord} (omega arith) (last refl),
-    (before {x = x + (k - 1)} {v = x} (omega arith) (inr (omega arith)),
-    push-writable n c (listOf (k - 1)) x h (list-small (k - 1) (omega arith) c (omega arith)) (omega arith) l))),
+    atSize {x = x} {v = freeWord (k - 1)} (omega arith) (freeSize (k - 1) refl (omega arith) (omega arith)),
+    (
+      atBefore {x = x} {v = none} (omega arith) (inl refl),
+      (
+        atSize {x = x + (k - 1)} {v = lastWord} (omega arith) (sentinel refl),
+        (
+          atBefore {x = x + (k - 1)} {v = x} (omega arith) (inr (omega arith)),
+          push-writable n c (listOf (k - 1)) x h (list-small (k - 1) (omega arith) c (omega arith)) (omega arith) l,
+        ),
+      ),
+    ),
   )
 
   -- all pieces
@@ -42,10 +48,10 @@ module _ (n c : ℕ) (some : 1 ≤ c) where
       let h = head-link n c (apply m w) s (j .0) (head-checked n (apply m w) s (j .0) (sym (over-run m w (seeHead n s) 3 (few-head n s)) ∙ j .1)) in
       lay-writable m i (w ++ pieceWrites x k (j .0)) (x + k) (len - k) v
       (all-append n c w (pieceWrites x k (j .0)) a (piece-writable x k (j .0) (omega (arith, d .0)) (omega arith) (omega arith) h)) (omega arith) (j .2))
-      (inv-choice m len 1 _ _ g)
+      (inv-if-le m len 1 _ _ g)
 
   pub region-writable : (most behind g len : ℕ) (m : Memory) (t : Plan) → Gives m (regionScript most behind n c g len) t → AllWritable n c (t .writes)
   region-writable most behind g len m t h =
       let r = region-checked most behind n c g len m t h in
       subst (λ (u : Plan). AllWritable n c (u .writes)) (sym (r .plan))
-      (all-append n c (r .w .writes) _ (lay-writable m len [] g len (r .w) tt (r .inside) (r .laid)) (table, (table, (table, tt))))
+      (all-append n c (r .w .writes) _ (lay-writable m len [] g len (r .w) tt (r .inside) (r .laid)) (atTable, (atTable, (atTable, tt))))

@@ -12,9 +12,9 @@ use Rattle.script.specs.Script.{over, over-run, Gives, inv-bind, inv-done}
 use Rattle.sound.specs.Checks.{isUsed, Beside, seeBehind, seeBefore, seeOwner}
 use Rattle.sound.specs.Plans.{Plan, padWrites, roomOf, leaves, bothLeave, leaveScript, takeScript, giveBackScript, elsewhereScript, downScript, moveScript, stretchScript, growScript, resizeScript}
 use Rattle.sound.specs.Constant.{back-reads}
-use Rattle.sound.specs.Inverted.{inv-if, inv-choice}
+use Rattle.sound.specs.Inverted.{inv-if-eq, inv-if-le}
 use Rattle.sound.specs.Checked.{Found, behind-checked, before-checked, owner-checked}
-use Rattle.sound.specs.Writable.{Fits, Decoded, live, AllWritable, all-append, decoded-after, leave-writable, pad-writable}
+use Rattle.sound.specs.Writable.{Fits, Decoded, atLive, AllWritable, all-append, decoded-after, leave-writable, pad-writable}
 use Rattle.sound.specs.WritableCalls.{take-writable, take-answer, Joined, behind-joined, before-joined, behind-inside, before-meets, leaves-writable, both-writable, back-writable}
 
 -- a payload stands behind its block's start
@@ -52,11 +52,11 @@ module _ (n c q p a : ℕ) (m : Memory) (d : Decoded n m) (al : Align a) (t : Pl
         subst (Storable n c) (inv-done m _ t (j .2)) (record {
           writes = all-append n c (j .0) _ (leave-writable n c m w z s (keeps e p) (j .0) b (keeps-some e p some) (i .0) h (j .1))
               (all-append n c (padWrites z e) _ (pad-writable n c z e s some low h)
-              (live {q = q} inside (omega arith), (live {q = 2 * z + e} (omega arith) (omega arith), tt)));
+              (atLive {q = q} inside (omega arith), (atLive {q = 2 * z + e} (omega arith) (omega arith), tt)));
           answer = (omega arith, omega arith);
         }))
         (λ i. elsewhere-storable u (i .1))
-        (inv-choice m (keeps (place a z) p) s _ _ g)
+        (inv-if-le m (keeps (place a z) p) s _ _ g)
 
     -- the block of s grains at x, with b behind it
     module _ (x s : ℕ) (b : Beside) (end : x + s + roomOf b + 1 ≤ n) (jb : Joined n c b) where
@@ -71,7 +71,7 @@ module _ (n c q p a : ℕ) (m : Memory) (d : Decoded n m) (al : Align a) (t : Pl
           (λ j. elsewhere-storable (2 * (x + s) - q) (j .1))
           (λ j. down-storable (2 * (x + s) - q) (x - roomOf f) (roomOf f + (s + roomOf b)) (bothLeave b (x - roomOf f) f)
           (both-writable n c b (x - roomOf f) f jb (before-joined n c m x f k)) (omega arith) (j .1))
-          (inv-if m (roomOf f) 0 _ _ (i .2))
+          (inv-if-eq m (roomOf f) 0 _ _ (i .2))
 
       -- steps 1 and 2
       stretch-storable : (e : ℕ) → 1 ≤ e → 1 ≤ q → Gives m (stretchScript n c q p a e x s b) t → Storable n c t
@@ -84,7 +84,7 @@ module _ (n c q p a : ℕ) (m : Memory) (d : Decoded n m) (al : Align a) (t : Pl
             answer = (l, inside);
           }))
           (λ i. move-storable (i .1))
-          (inv-choice m (keeps e p) (s + roomOf b) _ _ g)
+          (inv-if-le m (keeps e p) (s + roomOf b) _ _ g)
 
   pub resize-storable : Gives m (resizeScript n c q p a) t → Storable n c t
   unfolding resizeScript growScript
@@ -102,7 +102,7 @@ module _ (n c q p a : ℕ) (m : Memory) (d : Decoded n m) (al : Align a) (t : Pl
       let k = inv-bind m (seeBehind n c (x + s)) _ (j .1) in
       let b = behind-checked n c m (x + s) (k .0) (k .1) in
       stretch-storable r x s (k .0) (behind-inside n c m d (x + s) (k .0) (f .1) b) (behind-joined n c m (x + s) (k .0) b) (q - 2 * x) (omega arith) (omega arith) (k .2))
-      (inv-if m (keeps (q - 2 * x) p) s _ _ (i .2))
+      (inv-if-eq m (keeps (q - 2 * x) p) s _ _ (i .2))
 
   pub resize-writable : Gives m (resizeScript n c q p a) t → AllWritable n c (t .writes)
   resize-writable g = resize-storable g .writes
