@@ -1,6 +1,6 @@
 -- What holds on any memory, damaged or not, where a check lets a call go on: what it looked at hangs together. Each field
 -- below is a fact whose contrary is a contradiction in the records, and a call that meets it is refused with 5; but a
--- payload that is not live is refused with 3. So these are the theorems that say which damage is found.
+-- payload that is not live is refused with 3 (`Refused` says so). So these theorems say which damage is found.
 use Prim.Native.Nat.{ℕ, suc, _+_, _-_, _*_, _/_, _%_, _≤_, _<_}
 use native.Mathlib.Omega.{arith}
 use mathlib.Core.Path.{_≡_, refl, sym, subst}
@@ -18,6 +18,7 @@ use Rattle.sound.specs.Inverted.{inv-stop, inv-if-eq, Busy, busy-checked
 abbrev pub Back : ℕ → Memory → ℕ → ℕ → ℕ → Type 0
 Back n m f x y = (x ≡ none) ⊎ ((x < n) × (m f x ≡ y))
 
+-- a link that must lead back
 pub back-checked : (n : ℕ) (m : Memory) (f x y : ℕ) {u : Unit {0}} → Gives m (mustBack n f x y) u → Back n m f x y
 back-checked n m f x y h = ⊎-elim
     (λ i. inl (i .0))
@@ -27,17 +28,19 @@ back-checked n m f x y h = ⊎-elim
 -- ---- entries of the lists
 
 -- y is the head of list k, behind nothing; or the list has another head, and the block before y leads to it
-abbrev pub Behind : ℕ → Memory → ℕ → ℕ → ℕ → Type 0
-Behind n m k y p = ((p ≡ none) × (m Next (root k) ≡ y)) ⊎ ((m Next (root k) < n) × (m Next (root k) ≡ y → ⊥) × (p < n) × (m Next p ≡ y))
+abbrev pub LedTo : ℕ → Memory → ℕ → ℕ → ℕ → Type 0
+LedTo n m k y p = ((p ≡ none) × (m Next (root k) ≡ y)) ⊎ ((m Next (root k) < n) × (m Next (root k) ≡ y → ⊥) × (p < n) × (m Next p ≡ y))
 
+-- the entry e of y in list k
 pub record EntryChecked (n : ℕ) (m : Memory) (k y : ℕ) (e : Entry) : Type 0 where
   pub next : e .next ≡ m Next y
   pub prev : e .prev ≡ m Prev y
   pub back : Back n m Prev (e .next) y
   pub marked : m Mark k ≡ 1
-  pub head : Behind n m k y (e .prev)
+  pub head : LedTo n m k y (e .prev)
 
-prev-checked : (n : ℕ) (m : Memory) (k y p : ℕ) {u : Unit {0}} → Gives m (seePrev n (m Next (root k)) y p) u → Behind n m k y p
+-- what stands before y
+prev-checked : (n : ℕ) (m : Memory) (k y p : ℕ) {u : Unit {0}} → Gives m (seePrev n (m Next (root k)) y p) u → LedTo n m k y p
 prev-checked n m k y p h = ⊎-elim
     (λ i. inl (i .0, inv-eq m 5 (m Next (root k)) y (i .1)))
     (λ i.
@@ -47,6 +50,7 @@ prev-checked n m k y p h = ⊎-elim
     inr (grain-checked m n _ (a .1), inv-differ m _ _ (b .1), grain-checked m n p (d .1), lead-checked m Next p y (d .2)))
     (inv-if-eq m p none _ _ h)
 
+-- a free block is in its list
 pub entry-checked : (n : ℕ) (m : Memory) (k y : ℕ) (e : Entry) → Gives m (seeEntry n k y) e → EntryChecked n m k y e
 unfolding seeEntry
 entry-checked n m k y e h =
@@ -67,6 +71,7 @@ pub record HeadChecked (n : ℕ) (m : Memory) (k h : ℕ) : Type 0 where
   pub is : h ≡ m Next (root k)
   pub marked : ((h ≡ none) × (m Mark k ≡ 0)) ⊎ ((h < n) × (m Mark k ≡ 1) × (m Prev h ≡ none))
 
+-- the head that gets another before it
 pub head-checked : (n : ℕ) (m : Memory) (k h : ℕ) → Gives m (seeHead n k) h → HeadChecked n m k h
 unfolding seeHead
 head-checked n m k h g =
@@ -93,10 +98,12 @@ pub record BehindFree (n c : ℕ) (m : Memory) (y t : ℕ) (e : Entry) : Type 0 
   pub link : m Before (y + t) ≡ y
   pub entry : EntryChecked n m (listOf t) y e
 
+-- what stands at y, behind a used block
 abbrev pub BehindChecked : ℕ → ℕ → Memory → ℕ → Beside → Type 0
 BehindChecked n c m y nobody = Busy (wordOf (m Size y))
 BehindChecked n c m y (somebody t e) = BehindFree n c m y t e
 
+-- it is busy, or free and in its list
 pub behind-checked : (n c : ℕ) (m : Memory) (y : ℕ) (b : Beside) → Gives m (seeBehind n c y) b → BehindChecked n c m y b
 unfolding seeBehind
 behind-checked n c m y b h = go (wordOf (m Size y)) refl (inv-get m Size y _ h)
@@ -137,10 +144,12 @@ pub record BeforeUsed (m : Memory) (x : ℕ) : Type 0 where
   pub word : wordOf (m Size (m Before x)) ≡ isUsed grains
   pub meets : m Before x + grains ≡ x
 
+-- what stands before the block at x
 abbrev pub BeforeChecked : ℕ → ℕ → Memory → ℕ → Beside → Type 0
 BeforeChecked n c m x nobody = (m Before x ≡ none) ⊎ BeforeUsed m x
 BeforeChecked n c m x (somebody t e) = BeforeFree n c m x t e
 
+-- nothing, a used block, or a free one in its list
 pub before-checked : (n c : ℕ) (m : Memory) (x : ℕ) (b : Beside) → Gives m (seeBefore n c x) b → BeforeChecked n c m x b
 unfolding seeBefore
 before-checked n c m x b h = ⊎-elim
@@ -174,17 +183,19 @@ before-checked n c m x b h = ⊎-elim
 -- ---- the block of a payload at q
 
 -- half a grain before it, or as the word before it says
-abbrev pub Found : Memory → ℕ → ℕ → Type 0
-Found m q x = ((q % 2 ≡ 1) × (x ≡ q / 2)) ⊎ ((q % 2 ≡ 1 → ⊥) × (x ≡ m Prev (q / 2 - 1)) × (x < q / 2))
+abbrev pub FoundAt : Memory → ℕ → ℕ → Type 0
+FoundAt m q x = ((q % 2 ≡ 1) × (x ≡ q / 2)) ⊎ ((q % 2 ≡ 1 → ⊥) × (x ≡ m Prev (q / 2 - 1)) × (x < q / 2))
 
+-- the used block o of a live payload
 pub record OwnerChecked (m : Memory) (q : ℕ) (o : Owner) : Type 0 where
   pub live : m Live q ≡ 1
-  pub found : Found m q (o .at)
+  pub found : FoundAt m q (o .at)
   pub word : wordOf (m Size (o .at)) ≡ isUsed (o .grains)
   pub inside : q ≤ 2 * (o .at + o .grains)
   pub link : m Before (o .at + o .grains) ≡ o .at
 
-block-checked : (m : Memory) (q x : ℕ) → Gives m (blockOf q) x → Found m q x
+-- where it starts
+block-checked : (m : Memory) (q x : ℕ) → Gives m (blockOf q) x → FoundAt m q x
 block-checked m q x h = ⊎-elim
     (λ i. inl (i .0, sym (inv-done m (q / 2) x (i .1))))
     (λ i.
@@ -194,6 +205,7 @@ block-checked m q x h = ⊎-elim
     inr (i .0, sym e, omega (arith, inv-le m 5 (suc z) (q / 2) (a .1))))
     (inv-if-eq m (q % 2) 1 _ _ h)
 
+-- a payload that is returned or resized has a block
 pub owner-checked : (m : Memory) (q : ℕ) (o : Owner) → Gives m (seeOwner q) o → OwnerChecked m q o
 unfolding seeOwner
 owner-checked m q o h =

@@ -29,7 +29,8 @@ stops-with P m (done a) h g = let z : _≡_ {A = ℕ} 0 1 = cc in absurd (omega 
 stops-with P m (stop q) {r} h g = let e : q ≡ r = cc in subst P e h
 
 -- where what an answer tells can't be, there is none
-pub contrary : {A : Type 0} (P : ℕ → Type 0) (Q : A → Type 0) (m : Memory) (s : Script A) → Stops P s → ((a : A) → Gives m s a → Q a) → ((a : A) → Q a → ⊥) → (r : ℕ) × (run m s ≡ no r) × P r
+pub contrary : {A : Type 0} (P : ℕ → Type 0) (Q : A → Type 0) (m : Memory) (s : Script A) → Stops P s → ((a : A) → Gives m s a → Q a)
+    → ((a : A) → Q a → ⊥) → (r : ℕ) × (run m s ≡ no r) × P r
 contrary {A} P Q m s h q n = go (run m s) refl
   where
     go : (w : Result A) → run m s ≡ w → (r : ℕ) × (run m s ≡ no r) × P r

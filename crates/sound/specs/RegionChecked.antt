@@ -33,6 +33,7 @@ right-checked n s e w =
     (λ a h. absurd (omega arith))
 
 module _ (n g len : ℕ) (m : Memory) where
+  -- the table was looked through
   looked-checked : (r i : ℕ) (l v : Looked) → Gives m (seeRegions n g len r i l) v → LookedChecked n g len m r i l v
   unfolding seeRegions
   looked-checked zero i l v h = subst (LookedChecked n g len m 0 i l) (inv-done m l v h) (record {
@@ -79,6 +80,7 @@ pub record RegionChecked (most behind n c g len : ℕ) (m : Memory) (t : Plan) :
     writes = w .writes ++ ((Table at 2 * m Table 0 + 1 ≔ g) ∷ (Table at 2 * m Table 0 + 2 ≔ g + (len - w .over)) ∷ (Table at 0 ≔ suc (m Table 0)) ∷ []);
   }
 
+-- the region that is taken in
 pub region-checked : (most behind n c g len : ℕ) (m : Memory) (t : Plan) → Gives m (regionScript most behind n c g len) t → RegionChecked most behind n c g len m t
 unfolding regionScript
 region-checked most behind n c g len m t h =

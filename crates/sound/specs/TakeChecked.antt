@@ -42,6 +42,7 @@ pub record TakeChecked (n c p a : ℕ) (m : Memory) (t : Plan) : Type 0 where
 fits : (m : Memory) (c u s : ℕ) → 1 ≤ u → 1 ≤ s → listOf s ≡ firstSet (m Mark) (16 * c - startOf u) (startOf u) → u ≤ s
 fits m c u s h g e = start-fits u s (omega arith) (omega arith) (omega (arith, first-from (m Mark) (16 * c - startOf u) (startOf u)))
 
+-- the block that a take gets
 pub take-checked : (n c p a : ℕ) (m : Memory) (t : Plan) → Gives m (takeScript n c p a) t → TakeChecked n c p a m t
 unfolding takeScript
 take-checked n c p a m t g =

@@ -50,7 +50,7 @@ pub data Writable (n c : ℕ) : Write → Type 0 where
   atNext : {x v : ℕ} → NextPlace n c x → Link n v → Writable n c (Next at x ≔ v)
   atPrev : {x v : ℕ} → x < n → Link n v → Writable n c (Prev at x ≔ v)
   atMark : {k v : ℕ} → k < 16 * c → v ≤ 1 → Writable n c (Mark at k ≔ v)
-  atLive : {q v : ℕ} → q ≤ 2 * n → v ≤ 1 → Writable n c (Live at q ≔ v)
+  atLive : {q v : ℕ} → q < 2 * n → v ≤ 1 → Writable n c (Live at q ≔ v)
   atTable : {i v : ℕ} → Writable n c (Table at i ≔ v)
 
 -- what a write's field tells of it
@@ -70,7 +70,7 @@ module _ {n c x v : ℕ} where
   pub mark-in : Writable n c (Mark at x ≔ v) → (x < 16 * c) × (v ≤ 1)
   mark-in (atMark h s) = (h, s)
 
-  pub live-in : Writable n c (Live at x ≔ v) → (x ≤ 2 * n) × (v ≤ 1)
+  pub live-in : Writable n c (Live at x ≔ v) → (x < 2 * n) × (v ≤ 1)
   live-in (atLive h s) = (h, s)
 
 -- all writes of a list

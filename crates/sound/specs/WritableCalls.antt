@@ -28,6 +28,7 @@ module _ (n c p a : ℕ) (m : Memory) (t : Plan) (d : Decoded n m) (al : Align a
     within : keeps e p ≤ s
     low : e ≤ 2 * s
 
+  -- the block that it gets
   seen : TakeChecked n c p a m t
   seen = take-checked n c p a m t g
 
@@ -44,6 +45,7 @@ module _ (n c p a : ℕ) (m : Memory) (t : Plan) (d : Decoded n m) (al : Align a
         low = omega (arith, keeps-holds (place a y) p);
       }
 
+  -- every write of a take can be stored
   pub take-writable : AllWritable n c (t .writes)
   take-writable =
       let y = seen .y in
@@ -57,6 +59,7 @@ module _ (n c p a : ℕ) (m : Memory) (t : Plan) (d : Decoded n m) (al : Align a
       (pad-writable n c y e (seen .s) (placed .some) (placed .low) (placed .inside))
       (atLive {q = 2 * y + e} (omega (arith, placed .low, placed .inside)) (omega arith), tt)))
 
+  -- and what it answers is a payload inside the arena
   pub take-answer : (1 ≤ t .answer) × (t .answer ≤ 2 * n)
   take-answer = subst (λ (u : Plan). (1 ≤ u .answer) × (u .answer ≤ 2 * n)) (sym (seen .plan))
       (omega (arith, placed .some), omega (arith, placed .low, placed .inside))
@@ -69,6 +72,7 @@ Joined n c nobody = Unit {0}
 Joined n c (somebody t e) = (listOf t < 16 * c) × Link n (e .next) × Link n (e .prev)
 
 module _ (n c : ℕ) where
+  -- an entry that was checked is
   entry-joined : (m : Memory) (y t : ℕ) (e : Entry) → listOf t < 16 * c → EntryChecked n m (listOf t) y e → Joined n c (somebody t e)
   entry-joined m y t e h i = (h, ⊎-elim (λ a. inl a) (λ a. inr (a .0)) (i .back), ⊎-elim (λ a. inl (a .0)) (λ a. inr (a .2)) (i .head))
 
@@ -95,6 +99,7 @@ module _ (n c : ℕ) where
   leaves-writable nobody i = tt
   leaves-writable (somebody t e) i = unlink-writable n c (listOf t) (e .next) (e .prev) (i .0) (i .1) (i .2)
 
+  -- also after some writes
   still-joined : (w : List Write) (z : ℕ) (b : Beside) → AllWritable n c w → Joined n c b → Joined n c (afterwards w z b)
   still-joined w z nobody a i = tt
   still-joined w z (somebody t e) a i = (i .0, next-after n c w z (e .next) a (i .1), prev-after n c w z (e .prev) a (i .2))
@@ -108,7 +113,7 @@ module _ (n c : ℕ) where
   -- ---- return
 
   -- the block that comes to be, t grains at z
-  join-writable : (m : Memory) (q z t : ℕ) (w : List Write) (v : Plan) → AllWritable n c w → 1 ≤ t → z + t + 1 ≤ n → q ≤ 2 * n
+  join-writable : (m : Memory) (q z t : ℕ) (w : List Write) (v : Plan) → AllWritable n c w → 1 ≤ t → z + t + 1 ≤ n → q < 2 * n
       → Gives m (joinScript n c q z t w) v → AllWritable n c (v .writes)
   unfolding joinScript
   join-writable m q z t w v a p h l g =
@@ -121,6 +126,7 @@ module _ (n c : ℕ) where
       (all-append n c w _ a (push-writable n c (listOf t) z _ k (omega arith) f))
       (atSize {x = z} {v = freeWord t} (omega arith) (freeSize t refl p h), (atBefore {x = z + t} {v = z} (omega arith) (inr (omega arith)), (atLive {q = q} l (omega arith), tt))))
 
+  -- every write of a return can be stored
   pub back-writable : (q : ℕ) (m : Memory) (t : Plan) → Decoded n m → Gives m (giveBackScript n c q) t → AllWritable n c (t .writes)
   unfolding giveBackScript
   back-writable q m t d g =

@@ -1,5 +1,5 @@
--- Giving a region writes only what can be stored, on any memory that a decoder may show: all its pieces are inside it, and
--- the table has room for one more.
+-- Giving a region writes only what can be stored, on any memory: its pieces are inside it, and each has a list. With no
+-- first-level class at all a piece would have no room for a block, so there must be one.
 use Prim.Native.Nat.{ℕ, zero, suc, _+_, _-_, _^_, _≤_, min}
 use native.Mathlib.Omega.{arith}
 use lib.Pow.{pow-mono}
@@ -50,6 +50,7 @@ module _ (n c : ℕ) (some : 1 ≤ c) where
       (all-append n c w (pieceWrites x k (j .0)) a (piece-writable x k (j .0) (omega (arith, d .0)) (omega arith) (omega arith) h)) (omega arith) (j .2))
       (inv-if-le m len 1 _ _ g)
 
+  -- every write of a region can be stored
   pub region-writable : (most behind g len : ℕ) (m : Memory) (t : Plan) → Gives m (regionScript most behind n c g len) t → AllWritable n c (t .writes)
   region-writable most behind g len m t h =
       let r = region-checked most behind n c g len m t h in
