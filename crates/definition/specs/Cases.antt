@@ -112,7 +112,7 @@ left-over : (says 4200 (Give 0 131135 ∷ []) ≡ 131072 ∷ []) × (says 4200 (
 unfolding says
 left-over = (refl, refl, refl)
 
-region-ended : says 8 (Give 5 100 ∷ Append 96 96 ∷ Append 96 64 ∷ Append 0 64 ∷ Give 96 64 ∷ []) ≡ 91 ∷ 96 ∷ 4 ∷ 4 ∷ 4 ∷ []
+region-ended : says 12 (Give 5 100 ∷ Append 96 96 ∷ Append 96 64 ∷ Append 0 64 ∷ Append 256 64 ∷ Give 96 64 ∷ []) ≡ 91 ∷ 96 ∷ 4 ∷ 4 ∷ 4 ∷ 4 ∷ []
 unfolding says
 region-ended = refl
 

@@ -6,7 +6,7 @@ use mathlib.Core.Logic.{inl, inr}
 use Rattle.choice.specs.Choice.{ifEq, ifLe, eq-case, le-case}
 use Rattle.class.specs.Class.{listOf}
 use Rattle.definition.specs.Calls.{place, keeps}
-use Rattle.definition.specs.Members.{Mem}
+use Rattle.invariants.specs.Members.{Mem}
 use Rattle.script.specs.Memory.{Memory, Prev, Write}
 use Rattle.script.specs.Script.{no, run, unlessLe, mustEq, mustLe, over}
 use Rattle.sound.specs.Checks.{wordOf, asBusy, asFree, mustGrain, mustBack, mustList, seeHead, seeBehind, seeBefore, Owner, seeOwner}

@@ -8,10 +8,10 @@ use mathlib.Core.List.{List, [], _∷_, _++_}
 use Rattle.bits.specs.First.{firstSet, first-from, first-is-set}
 use Rattle.class.specs.Class.{listOf, startOf, start-fits}
 use Rattle.definition.specs.Calls.{wanted, place, keeps}
-use Rattle.definition.specs.Placing.{wanted-some}
+use Rattle.invariants.specs.Placing.{wanted-some}
 use Rattle.script.specs.Memory.{Memory, Size, Before, Next, Prev, Mark, Live, none, root, Write, _at_≔_}
 use Rattle.script.specs.Script.{unlessLe, mustEq, Gives, inv-bind, inv-get, inv-done, inv-eq, inv-le}
-use Rattle.sound.specs.Strung.{unlinkWrites}
+use Rattle.sound.specs.Links.{unlinkWrites}
 use Rattle.sound.specs.Checks.{isFree, wordOf, mustGrain, mustBack, asBusy, asFree}
 use Rattle.sound.specs.Plans.{Plan, leaveScript, padWrites, takeScript}
 use Rattle.sound.specs.Inverted.{inv-first, Some, word-some, Busy, busy-checked, free-checked, grain-checked}

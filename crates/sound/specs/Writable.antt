@@ -9,7 +9,7 @@ use Rattle.choice.specs.Choice.{eq-case, upd-each}
 use Rattle.class.specs.Class.{listOf}
 use Rattle.script.specs.Memory.{Memory, Size, Before, Next, Prev, Mark, Live, Table, none, root, freeWord, usedWord, lastWord, Write, _at_≔_, put, apply, latest}
 use Rattle.script.specs.Script.{Gives, inv-bind, inv-done, inv-le}
-use Rattle.sound.specs.Strung.{unlinkWrites, pushWrites}
+use Rattle.sound.specs.Links.{unlinkWrites, pushWrites}
 use Rattle.sound.specs.Checks.{Word, isFree, isUsed, isLast, isBad, wordOf, mustList, seeHead}
 use Rattle.sound.specs.Seen.{word-free, word-used, word-last}
 use Rattle.sound.specs.Plans.{leaveScript, wholeWrites, splitWrites, padWrites}

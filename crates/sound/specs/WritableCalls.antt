@@ -7,10 +7,10 @@ use mathlib.Core.List.{List, _++_}
 use mathlib.Core.Logic.{_⊎_, inl, inr, ⊎-elim}
 use Rattle.class.specs.Class.{listOf}
 use Rattle.definition.specs.Calls.{place, keeps}
-use Rattle.definition.specs.Placing.{Align, align-pos, place-some, keeps-some, keeps-holds, keeps-wanted}
+use Rattle.invariants.specs.Placing.{Align, align-pos, place-some, keeps-some, keeps-holds, keeps-wanted}
 use Rattle.script.specs.Memory.{Memory, Before, Next, none, root, freeWord, Write, latest}
 use Rattle.script.specs.Script.{Gives, inv-bind, inv-done, inv-le}
-use Rattle.sound.specs.Strung.{pushWrites}
+use Rattle.sound.specs.Links.{pushWrites}
 use Rattle.sound.specs.Checks.{isUsed, mustList, Entry, seeHead, Beside, nobody, somebody, seeBehind, seeBefore, seeOwner}
 use Rattle.sound.specs.Plans.{Plan, padWrites, freeWrites, roomOf, leaves, afterwards, bothLeave, takeScript, joinScript, giveBackScript}
 use Rattle.sound.specs.Checked.{EntryChecked, head-checked, BehindChecked, behind-checked, BeforeChecked, before-checked, owner-checked}

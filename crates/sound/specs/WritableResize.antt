@@ -6,7 +6,7 @@ use mathlib.Core.Path.{sym, _∙_, subst}
 use mathlib.Core.List.{List}
 use mathlib.Core.Logic.{_⊎_, inl, inr, ⊎-elim}
 use Rattle.definition.specs.Calls.{place, keeps}
-use Rattle.definition.specs.Placing.{Align, align-pos, place-some, keeps-some, keeps-holds}
+use Rattle.invariants.specs.Placing.{Align, align-pos, place-some, keeps-some, keeps-holds}
 use Rattle.script.specs.Memory.{Memory, Write, apply}
 use Rattle.script.specs.Script.{over, over-run, Gives, inv-bind, inv-done}
 use Rattle.sound.specs.Checks.{isUsed, Beside, seeBehind, seeBefore, seeOwner}
