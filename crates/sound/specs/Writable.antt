@@ -7,7 +7,7 @@ use mathlib.Core.List.{List, [], _∷_, _++_}
 use mathlib.Core.Logic.{_⊎_, inl, inr, ⊎-elim}
 use Rattle.choice.specs.Choice.{eq-case, upd-each}
 use Rattle.class.specs.Class.{listOf}
-use Rattle.script.specs.Memory.{Memory, Size, Before, Next, Prev, Mark, Live, Table, none, root, freeWord, usedWord, lastWord, Write, _at_≔_, put, apply, latest}
+use Rattle.script.specs.Memory.{Memory, Size, Before, Next, Prev, Mark, Live, none, root, freeWord, usedWord, lastWord, Write, _at_≔_, put, apply, latest}
 use Rattle.script.specs.Script.{Gives, inv-bind, inv-done, inv-le}
 use Rattle.sound.specs.Links.{unlinkWrites, pushWrites}
 use Rattle.sound.specs.Checks.{Word, isFree, isUsed, isLast, isBad, wordOf, mustList, seeHead}
@@ -43,7 +43,8 @@ pub data SizeWord (n x v : ℕ) : Type 0 where
 abbrev pub NextPlace : ℕ → ℕ → ℕ → Type 0
 NextPlace n c x = (x < n) ⊎ ((k : ℕ) × (x ≡ root k) × (k < 16 * c))
 
--- by the field; the table is the region script's, which knows its length
+-- by the field. Take, return and resize write nothing in the table of regions, and so nothing of it can be stored here;
+-- what is written there when a region is given, `RegionChecked` tells
 pub data Writable (n c : ℕ) : Write → Type 0 where
   atSize : {x v : ℕ} → x < n → SizeWord n x v → Writable n c (Size at x ≔ v)
   atBefore : {x v : ℕ} → x < n → Link n v → Writable n c (Before at x ≔ v)
@@ -51,7 +52,6 @@ pub data Writable (n c : ℕ) : Write → Type 0 where
   atPrev : {x v : ℕ} → x < n → Link n v → Writable n c (Prev at x ≔ v)
   atMark : {k v : ℕ} → k < 16 * c → v ≤ 1 → Writable n c (Mark at k ≔ v)
   atLive : {q v : ℕ} → q < 2 * n → v ≤ 1 → Writable n c (Live at q ≔ v)
-  atTable : {i v : ℕ} → Writable n c (Table at i ≔ v)
 
 -- what a write's field tells of it
 module _ {n c x v : ℕ} where
@@ -100,7 +100,6 @@ module _ (n c : ℕ) where
   decoded-put m w d (atPrev h s) = d
   decoded-put m w d (atMark h s) = d
   decoded-put m w d (atLive h s) = d
-  decoded-put m w d atTable = d
 
   pub decoded-after : (m : Memory) (l : List Write) → Decoded n m → AllWritable n c l → Decoded n (apply m l)
   decoded-after m [] d a = d
@@ -118,7 +117,6 @@ module _ (n c : ℕ) where
       one w (atPrev h s) = k
       one w (atMark h s) = k
       one w (atLive h s) = k
-      one w atTable = k
 
   pub prev-after : (l : List Write) (y v : ℕ) → AllWritable n c l → Link n v → Link n (latest l Prev y v)
   prev-after [] y v a k = k
@@ -131,7 +129,6 @@ module _ (n c : ℕ) where
       one w (atPrev {x} {v = u} h s) = eq-case (Link n) y x u v (λ _. s) (λ _. k)
       one w (atMark h s) = k
       one w (atLive h s) = k
-      one w atTable = k
 
   -- ---- parts of plans
 

@@ -11,11 +11,11 @@ use Rattle.script.specs.Memory.{Memory, none, freeWord, lastWord, Write, apply}
 use Rattle.script.specs.Script.{over, over-run, Gives, inv-bind, inv-done}
 use Rattle.sound.specs.Checks.{seeHead, few-head}
 use Rattle.sound.specs.Plans.{Plan}
-use Rattle.sound.specs.RegionPlan.{pieceWrites, Layout, layScript, regionScript}
+use Rattle.sound.specs.RegionPlan.{pieceWrites, Layout, layScript}
 use Rattle.sound.specs.Inverted.{inv-if-le}
 use Rattle.sound.specs.Checked.{head-checked}
-use Rattle.sound.specs.RegionChecked.{region-checked}
-use Rattle.sound.specs.Writable.{Link, freeSize, sentinel, atSize, atBefore, atTable, AllWritable, all-append, push-writable, head-link}
+use Rattle.sound.specs.RegionChecked.{RegionChecked}
+use Rattle.sound.specs.Writable.{Link, freeSize, sentinel, atSize, atBefore, AllWritable, all-append, push-writable, head-link}
 
 module _ (n c : ℕ) (some : 1 ≤ c) where
   -- a piece of k grains at x
@@ -50,9 +50,6 @@ module _ (n c : ℕ) (some : 1 ≤ c) where
       (all-append n c w (pieceWrites x k (j .0)) a (piece-writable x k (j .0) (omega (arith, d .0)) (omega arith) (omega arith) h)) (omega arith) (j .2))
       (inv-if-le m len 1 _ _ g)
 
-  -- every write of a region can be stored
-  pub region-writable : (most behind g len : ℕ) (m : Memory) (t : Plan) → Gives m (regionScript most behind n c g len) t → AllWritable n c (t .writes)
-  region-writable most behind g len m t h =
-      let r = region-checked most behind n c g len m t h in
-      subst (λ (u : Plan). AllWritable n c (u .writes)) (sym (r .plan))
-      (all-append n c (r .w .writes) _ (lay-writable m len [] g len (r .w) tt (r .inside) (r .laid)) (atTable, (atTable, (atTable, tt))))
+  -- every write of a region can be stored; those in the table come behind these
+  pub region-writable : (most behind g len : ℕ) (m : Memory) (t : Plan) (r : RegionChecked most behind n c g len m t) → AllWritable n c (r .w .writes)
+  region-writable most behind g len m t r = lay-writable m len [] g len (r .w) tt (r .inside) (r .laid)
