@@ -26,3 +26,4 @@ pub mod Founded
 pub mod Laying
 pub mod RegionTable
 pub mod RegionSound
+pub mod Calls
