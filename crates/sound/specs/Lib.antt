@@ -27,3 +27,4 @@ pub mod Laying
 pub mod RegionTable
 pub mod RegionSound
 pub mod Calls
+pub mod Runs
