@@ -28,3 +28,5 @@ pub mod RegionTable
 pub mod RegionSound
 pub mod Calls
 pub mod Runs
+pub mod PayloadWrites
+pub mod Payloads
