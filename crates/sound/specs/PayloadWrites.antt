@@ -8,7 +8,7 @@ use mathlib.Core.List.{List, [], _∷_, _++_}
 use mathlib.Core.Logic.{_⊎_, inl, inr, ⊎-elim}
 use Rattle.choice.specs.Choice.{ifEq, eq-case}
 use Rattle.class.specs.Class.{listOf}
-use Rattle.definition.specs.Blocks.{Block, free, used}
+use Rattle.definition.specs.Blocks.{Block, free, used, last, gap}
 use Rattle.definition.specs.Lists.{Lists}
 use Rattle.definition.specs.Order.{out, BlockAt, Apart, same, before, behind, apart, at-whole}
 use Rattle.definition.specs.Members.{Mem, Apiece}
@@ -19,7 +19,8 @@ use Rattle.sound.specs.Strung.{Strung, unlinkWrites, pushWrites}
 use Rattle.sound.specs.Relists.{NotIn, Relists}
 use Rattle.sound.specs.Finish.{Lives}
 use Rattle.sound.specs.Leave.{restWrites, leaveWrites}
-use Rattle.sound.specs.Plans.{padWrites, wholeWrites, splitWrites, freeWrites}
+use Rattle.sound.specs.Plans.{padWrites, wholeWrites, splitWrites, freeWrites, leaves, afterwards}
+use Rattle.sound.specs.SeenBeside.{beside}
 
 -- the word of field f at grain x is one of the payload
 abbrev pub InPayload : ℕ → ℕ → ℕ → ℕ → ℕ → Type 0
@@ -135,6 +136,14 @@ module _ (m : Memory) (f g : Lists) (w : List Write) (r : Relists m f w g) (y s 
   -- a head that is read before and put right
   pub after-off : (k : ℕ) → Off y s (latest w Next (root k) (m Next (root k)))
   after-off k = head-off (apply m w) g (r .apiece) (r .real) (r .strung) y s small un k _ (sym (apply-is m w Next (root k)))
+
+  -- a free block at z that stands first in l leaves its list
+  pub leaves-off : (l : List Block) (z : ℕ) → ((k : ℕ) (q : List Block) → l ≡ free k ∷ q → Mem z (g (listOf k))) → Spares y s 1 (leaves (afterwards w z (beside m l z)))
+  leaves-off [] z i = tt
+  leaves-off (free k ∷ l) z i = drop-off (apply m w) g (r .apiece) (r .real) (r .strung) y s small un (listOf k) z _ _ (i k l refl) (sym (apply-is m w Next z)) (sym (apply-is m w Prev z))
+  leaves-off (used k d ∷ l) z i = tt
+  leaves-off (last ∷ l) z i = tt
+  leaves-off (gap ∷ l) z i = tt
 
   -- t grains at x of which k are kept, with a payload placed at d; then live bits
   pub placed-off : (x t k d : ℕ) (v : List Write) → Lives v → Spares y s 1 w → Aside y s x t → k ≤ t → 1 ≤ d → d ≤ 2 * t → Spares y s 1 (leaveWrites m w x t k ++ (padWrites x d ++ v))
