@@ -30,3 +30,4 @@ pub mod Calls
 pub mod Runs
 pub mod PayloadWrites
 pub mod Payloads
+pub mod PayloadResize

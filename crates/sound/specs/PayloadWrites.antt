@@ -1,12 +1,12 @@
 -- Payloads in memory. Field f < 4 of grain x is word number 4 * x + f of the arena, and a half grain is two words. The
 -- payload of a used block of s grains at y, at the place d in it, are the words from 4 * y + 2 * d up to the block's end.
 -- Here: what each part of a plan writes misses the payload, if the grains it goes to are not the block's.
-use Prim.Native.Nat.{ℕ, zero, suc, _+_, _-_, _*_, _/_, _%_, _≤_, _<_}
+use Prim.Native.Nat.{ℕ, _+_, _-_, _*_, _/_, _%_, _≤_, _<_}
 use native.Mathlib.Omega.{arith}
-use mathlib.Core.Path.{_≡_, refl, ap, sym, _∙_, subst}
+use mathlib.Core.Path.{_≡_, refl, sym}
 use mathlib.Core.List.{List, [], _∷_, _++_}
 use mathlib.Core.Logic.{_⊎_, inl, inr, ⊎-elim}
-use Rattle.choice.specs.Choice.{ifEq, eq-case}
+use Rattle.choice.specs.Choice.{eq-case}
 use Rattle.class.specs.Class.{listOf}
 use Rattle.definition.specs.Blocks.{Block, free, used, last, gap}
 use Rattle.definition.specs.Lists.{Lists}
@@ -18,7 +18,7 @@ use Rattle.sound.specs.Chain.{Real, node, node-mem, next-mem, head-is}
 use Rattle.sound.specs.Strung.{Strung, unlinkWrites, pushWrites}
 use Rattle.sound.specs.Relists.{NotIn, Relists}
 use Rattle.sound.specs.Finish.{Lives}
-use Rattle.sound.specs.Leave.{restWrites, leaveWrites}
+use Rattle.sound.specs.Leave.{leaveWrites}
 use Rattle.sound.specs.Plans.{padWrites, wholeWrites, splitWrites, freeWrites, leaves, afterwards}
 use Rattle.sound.specs.SeenBeside.{beside}
 

@@ -1,15 +1,15 @@
 -- T7 in memory: on a sound memory no call writes into the payload of a block that stays in use. Take, return and resize
 -- write headers of blocks beside it, links of free blocks, and the word before their own payload.
-use Prim.Native.Nat.{ℕ, zero, suc, _+_, _-_, _*_, _/_, _%_, _≤_, _<_}
+use Prim.Native.Nat.{ℕ, suc, _+_, _-_, _*_, _≤_, _<_}
 use native.Mathlib.Omega.{arith}
 use mathlib.Core.Path.{_≡_, refl, ap, sym, _∙_, subst}
 use mathlib.Core.List.{List, [], _∷_, _++_}
-use mathlib.Core.Logic.{_⊎_, inl, inr, ⊎-elim}
-use Rattle.choice.specs.Choice.{ifEq, eq-yes, eq-no, same?}
+use mathlib.Core.Logic.{inl, inr, ⊎-elim}
+use Rattle.choice.specs.Choice.{eq-yes, eq-no, same?}
 use Rattle.bits.specs.First.{firstSet, first-from}
 use Rattle.class.specs.Class.{listOf, startOf, start-fits}
-use Rattle.definition.specs.Blocks.{Block, free, used, last, gap, size, total, _⟨⟩_, room, past}
-use Rattle.definition.specs.Lists.{Lists, drop, skip}
+use Rattle.definition.specs.Blocks.{Block, free, used, total, _⟨⟩_, room, past}
+use Rattle.definition.specs.Lists.{Lists, skip}
 use Rattle.definition.specs.Calls.{Heap, wanted, place, keeps}
 use Rattle.definition.specs.Order.{out, BlockAt, at-here, stands-at, Apart, same, before, behind, apart, at-whole}
 use Rattle.definition.specs.Members.{Mem, mem-drop}
@@ -17,23 +17,23 @@ use Rattle.definition.specs.Placing.{Align, align-pos, keeps-wanted, wanted-som
 use Rattle.definition.specs.Moves.{free-used}
 use Rattle.definition.specs.Neighbours.{swallow-behind, total-past}
 use Rattle.definition.specs.Kept.{kept-join-back}
-use Rattle.script.specs.Memory.{Memory, Before, Next, Prev, Mark, Live, none, root, Write, _at_≔_, latest, apply, apply-is}
-use Rattle.script.specs.Script.{Script, ok, no, run, done, Gives, goes, halts, searches, inv-bind, inv-get, inv-done, inv-eq, inv-le, unlessLe, mustEq, _>>=_}
+use Rattle.script.specs.Memory.{Memory, Before, Next, Prev, Mark, Live, none, root, Write, _at_≔_, latest}
+use Rattle.script.specs.Script.{Script, ok, run, done, Gives, goes, halts, searches, inv-bind, inv-get, inv-done, inv-eq, inv-le, unlessLe, mustEq, _>>=_}
 use Rattle.sound.specs.Chain.{head-is}
 use Rattle.sound.specs.Strung.{unlinkWrites, pushWrites}
 use Rattle.sound.specs.Sound.{Sound}
 use Rattle.sound.specs.Checks.{mustGrain, mustFree, mustLead, mustBack, mustBusy, mustList, seeHead, Beside, nobody, somebody, Owner, seeOwner, seeBehind, seeBefore}
 use Rattle.sound.specs.Plans.{Plan, leaveScript, wholeWrites, padWrites, takeScript, leaves, afterwards, bothLeave, giveBackScript, joinScript, freeWrites, roomOf}
-use Rattle.sound.specs.Relists.{Relists, relists-none, relists-drop}
+use Rattle.sound.specs.Relists.{relists-none, relists-drop}
 use Rattle.sound.specs.Skips.{skips-behind, fewer-behind, skips-both, fewer-both}
 use Rattle.sound.specs.SeenBeside.{Here, beside, room-seen, owner-seen, behind-seen, before-seen}
 use Rattle.sound.specs.Leave.{restWrites, leaveWrites}
 use Rattle.sound.specs.Seen.{lists-real, head-seen, free-seen, not-owner}
 use Rattle.sound.specs.Settle.{at-end}
-use Rattle.sound.specs.PayloadWrites.{InPayload, Spares, spares-append, spares-from, Off, Edge, table-word, unlink-off, push-off, leave-off, pad-off, free-off, Unlisted, used-unlisted, head-off, drop-off, Aside, aside-off, aside-edge, after-off, leaves-off, placed-off}
+use Rattle.sound.specs.PayloadWrites.{Spares, spares-append, spares-from, push-off, free-off, Unlisted, used-unlisted, drop-off, Aside, aside-off, aside-edge, after-off, leaves-off, placed-off}
 
 -- what leaveScript plans, where the heads are seen
-leave-planned : (n c : ℕ) (m : Memory) (w v : List Write) (x t k : ℕ) → ((j : ℕ) → Gives m (seeHead n j) (m Next (root j))) → Gives m (leaveScript n c w x t k) v → v ≡ leaveWrites m w x t k
+pub leave-planned : (n c : ℕ) (m : Memory) (w v : List Write) (x t k : ℕ) → ((j : ℕ) → Gives m (seeHead n j) (m Next (root j))) → Gives m (leaveScript n c w x t k) v → v ≡ leaveWrites m w x t k
 unfolding leaveScript
 leave-planned n c m w v x t k heads g = ⊎-elim
     (λ (e : k ≡ t). sym (inv-done m _ _ (ap (run m) (sym (eq-yes k t (done (w ++ wholeWrites x t)) _ e)) ∙ g)) ∙ sym (eq-yes k t _ (restWrites m w x t k) e))
@@ -50,11 +50,11 @@ join-planned n c m q z t w p heads g =
     ap (λ (u : Plan). u .writes) (sym (inv-done m _ p (sym (goes m (seeHead n (listOf t)) _ (heads (listOf t))) ∙ i .2)))
 
 -- a used block ends in the arena
-used-small : (n c : ℕ) (m : Memory) (h : Heap) → Sound n c m h → (y s d : ℕ) → BlockAt y (used s d) 0 (h .blocks) → y + s ≤ none
+pub used-small : (n c : ℕ) (m : Memory) (h : Heap) → Sound n c m h → (y s d : ℕ) → BlockAt y (used s d) 0 (h .blocks) → y + s ≤ none
 used-small n c m h o y s d b = omega (arith, at-end y (used s d) 0 (h .blocks) b, o .whole, o .small)
 
 -- a used block and a free one lie apart
-free-aside : (A : List Block) (y s d x t : ℕ) → BlockAt y (used s d) 0 A → BlockAt x (free t) 0 A → Aside y s x t
+pub free-aside : (A : List Block) (y s d x t : ℕ) → BlockAt y (used s d) 0 A → BlockAt x (free t) 0 A → Aside y s x t
 free-aside A y s d x t b i = go (apart y x 0 (used s d) (free t) A b i)
   where
     go : Apart y (used s d) x (free t) → Aside y s x t
@@ -65,15 +65,15 @@ free-aside A y s d x t b i = go (apart y x 0 (used s d) (free t) A b i)
 -- ---- take
 
 -- the free block that a take gets, and what is planned
-record Taking (n c p a : ℕ) (m : Memory) (h : Heap) (t : Plan) : Type 0 where
-  start : ℕ
-  grains : ℕ
-  there : BlockAt start (free grains) 0 (h .blocks)
-  member : Mem start (h .lists (listOf grains))
-  first : m Prev start ≡ none
-  fits : keeps (place a start) p ≤ grains
-  answer : t .answer ≡ 2 * start + place a start
-  writes : t .writes ≡ leaveWrites m (unlinkWrites (listOf grains) (m Next start) none) start grains (keeps (place a start) p)
+pub record Taking (n c p a : ℕ) (m : Memory) (h : Heap) (t : Plan) : Type 0 where
+  pub start : ℕ
+  pub grains : ℕ
+  pub there : BlockAt start (free grains) 0 (h .blocks)
+  pub member : Mem start (h .lists (listOf grains))
+  pub first : m Prev start ≡ none
+  pub fits : keeps (place a start) p ≤ grains
+  pub answer : t .answer ≡ 2 * start + place a start
+  pub writes : t .writes ≡ leaveWrites m (unlinkWrites (listOf grains) (m Next start) none) start grains (keeps (place a start) p)
       ++ (padWrites start (place a start) ++ ((Live at 2 * start + place a start ≔ 1) ∷ []))
 
 module _ (n c p a : ℕ) (m : Memory) (h : Heap) (al : Align a) (o : Sound n c m h) where
@@ -102,7 +102,7 @@ module _ (n c p a : ℕ) (m : Memory) (h : Heap) (al : Align a) (o : Sound n c m
             ∙ ap (λ (u : List Write). u ++ (padWrites y (place a y) ++ ((Live at 2 * y + place a y ≔ 1) ∷ []))) (subst (λ (u : ℕ). w ≡ leaveWrites m (unlinkWrites u (m Next y) none) y s (keeps (place a y) p)) (sym li) lw);
       }
 
-  taking : (t : Plan) → Gives m (takeScript n c p a) t → Taking n c p a m h t
+  pub taking : (t : Plan) → Gives m (takeScript n c p a) t → Taking n c p a m h t
   unfolding takeScript
   taking t g =
       let i = startOf (wanted p a) in
@@ -148,16 +148,16 @@ after-none z nobody = refl
 after-none z (somebody t e) = refl
 
 -- the block whose payload is at q
-record Owned (h : Heap) (q : ℕ) : Type 0 where
-  l : List Block
-  r : List Block
-  s : ℕ
-  d : ℕ
-  whole : h .blocks ≡ l ⟨⟩ used s d ∷ r
-  payload : q ≡ 2 * total l + d
+pub record Owned (h : Heap) (q : ℕ) : Type 0 where
+  pub l : List Block
+  pub r : List Block
+  pub s : ℕ
+  pub d : ℕ
+  pub whole : h .blocks ≡ l ⟨⟩ used s d ∷ r
+  pub payload : q ≡ 2 * total l + d
 
 -- a script that begins with it and is not refused has found it
-owned : (n c : ℕ) (m : Memory) (h : Heap) (q : ℕ) → Sound n c m h → (k : Owner → Script Plan) (t : Plan) → Gives m (seeOwner q >>= k) t → Owned h q
+pub owned : (n c : ℕ) (m : Memory) (h : Heap) (q : ℕ) → Sound n c m h → (k : Owner → Script Plan) (t : Plan) → Gives m (seeOwner q >>= k) t → Owned h q
 owned n c m h q o k t g = ⊎-elim
     (λ (e : m Live q ≡ 1).
     let b = o .lively .real q e in
@@ -168,7 +168,7 @@ owned n c m h q o k t g = ⊎-elim
 
 module _ (n c : ℕ) (m : Memory) (f : Lists) (l r : List Block) (s d : ℕ) (o : Sound n c m (Here f l (used s d) r)) where
   -- another used block lies beside it and its free neighbours
-  both-aside : (y t e : ℕ) → BlockAt y (used t e) 0 (l ⟨⟩ used s d ∷ r) → (2 * y + e ≡ 2 * total l + d → ⊥) → Aside y t (total (past l)) (room l + (s + room r))
+  pub both-aside : (y t e : ℕ) → BlockAt y (used t e) 0 (l ⟨⟩ used s d ∷ r) → (2 * y + e ≡ 2 * total l + d → ⊥) → Aside y t (total (past l)) (room l + (s + room r))
   both-aside y t e b ne = ⊎-elim
       (λ (i : (y ≡ total l) × (used s d ≡ used t e)). let j : used s d ≡ used t e = i .1 in let k : d ≡ e = cc in absurd (ne (omega (arith, i .0))))
       (λ (i : BlockAt y (used t e) 0 (past l ⟨⟩ free (room l + (s + room r)) ∷ past r)). free-aside (past l ⟨⟩ free (room l + (s + room r)) ∷ past r) y t e (total (past l)) (room l + (s + room r)) i (at-here (past l) (past r) (free (room l + (s + room r)))))
@@ -176,12 +176,12 @@ module _ (n c : ℕ) (m : Memory) (f : Lists) (l r : List Block) (s d : ℕ) (o 
 
   module _ (y t : ℕ) (small : y + t ≤ none) (un : Unlisted f y t) where
     -- its neighbours leave their lists
-    behind-off : Spares y t 1 (leaves (beside m r (total l + s)))
+    pub behind-off : Spares y t 1 (leaves (beside m r (total l + s)))
     behind-off = subst (λ (b : Beside). Spares y t 1 (leaves b)) (after-none (total l + s) (beside m r (total l + s)))
         (leaves-off m f f [] (relists-none m f (o .heap .exact .apiece) (lists-real n c m (Here f l (used s d) r) o) (o .strung)) y t small un r (total l + s)
         (λ k q i. o .heap .exact .listed (total l + s) k (subst (λ (a : List Block). BlockAt (total l + s) (free k) 0 (l ⟨⟩ used s d ∷ a)) (sym i) (at-here (used s d ∷ l) q (free k)))))
 
-    both-off : Spares y t 1 (bothLeave (beside m r (total l + s)) (total (past l)) (beside m l (total (past l))))
+    pub both-off : Spares y t 1 (bothLeave (beside m r (total l + s)) (total (past l)) (beside m l (total (past l))))
     both-off = spares-append y t 1 (leaves (beside m r (total l + s))) _ behind-off
         (leaves-off m f (skip r (total l + s) f) (leaves (beside m r (total l + s))) (skips-behind n c m f l r s d o) y t small (λ u i j k v. un u i j k (fewer-behind n c m f l r s d o k u v)) l (total (past l))
         (λ k q i. swallow-behind c f l r s d (o .heap) .exact .listed (total (past l)) k
