@@ -31,3 +31,4 @@ pub mod Runs
 pub mod PayloadWrites
 pub mod Payloads
 pub mod PayloadResize
+pub mod PayloadRegions
