@@ -29,6 +29,8 @@ pub mod RegionSound
 pub mod Calls
 pub mod Runs
 pub mod PayloadWrites
-pub mod Payloads
+pub mod PayloadTake
+pub mod PayloadReturn
 pub mod PayloadResize
 pub mod PayloadRegions
+pub mod Payloads

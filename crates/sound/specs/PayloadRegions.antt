@@ -23,7 +23,7 @@ use Rattle.sound.specs.Founded.{Founded, sound-founded, founded-real, he
 use Rattle.sound.specs.Laying.{piece-founded}
 use Rattle.sound.specs.RegionTable.{firstOf, endOf, Overlap, Passed, look}
 use Rattle.sound.specs.PayloadWrites.{Spares, spares-append, spares-from, table-word, push-off, Unlisted, used-unlisted, head-off, Aside, aside-off, aside-edge}
-use Rattle.sound.specs.Payloads.{used-small}
+use Rattle.sound.specs.PayloadTake.{used-small}
 
 -- ---- pieces
 

@@ -28,7 +28,8 @@ use Rattle.sound.specs.SeenBeside.{Here, beside, room-seen, owner-seen, 
 use Rattle.sound.specs.Skips.{skips-behind, fewer-behind, skips-both, fewer-both}
 use Rattle.sound.specs.TakeSound.{take-meets}
 use Rattle.sound.specs.PayloadWrites.{Spares, spares-append, spares-from, Unlisted, used-unlisted, Off, Edge, Aside, aside-off, aside-edge, leave-off, after-off, placed-off}
-use Rattle.sound.specs.Payloads.{leave-planned, used-small, free-aside, taking, take-spares, owned, both-aside, behind-off, both-off, back-spares}
+use Rattle.sound.specs.PayloadTake.{leave-planned, used-small, free-aside, taking, take-spares}
+use Rattle.sound.specs.PayloadReturn.{owned, both-aside, behind-off, both-off, back-spares}
 
 -- ---- step 4: a take, and then a return
 
