@@ -27,6 +27,7 @@ pub mod Laying
 pub mod RegionTable
 pub mod RegionSound
 pub mod Calls
+pub mod LiveResize
 pub mod TableWrites
 pub mod Runs
 pub mod PayloadWrites

@@ -1,10 +1,10 @@
 -- T7 in memory: no call writes into the payload of a block that stays in use, so none of its words changes. A payload's
 -- words are said in PayloadWrites, and each call is proved in its own file; here they are together.
 use Prim.Native.Nat.{ℕ, _+_, _*_, _≤_, _<_}
-use mathlib.Core.Path.{_≡_, refl, ap, sym, _∙_, subst}
+use mathlib.Core.Path.{_≡_}
 use mathlib.Core.List.{List, [], _∷_}
-use Rattle.definition.specs.Blocks.{Block, used}
-use Rattle.definition.specs.Calls.{Heap, keeps}
+use Rattle.definition.specs.Blocks.{used}
+use Rattle.definition.specs.Calls.{Heap}
 use Rattle.definition.specs.Order.{BlockAt}
 use Rattle.script.specs.Memory.{Memory, Write, apply, apply-spared, Spared}
 use Rattle.script.specs.Script.{ok, run}

@@ -1,18 +1,18 @@
 -- Who writes the table of regions: on any memory, take, return and resize leave it alone, and a region that is given
 -- raises the number of regions by one.
-use Prim.Native.Nat.{ℕ, zero, suc, _+_, _-_, _*_, _/_, _%_, _≤_, _<_}
+use Prim.Native.Nat.{ℕ, suc, _+_, _-_, _*_, _%_}
 use native.Mathlib.Omega.{arith}
-use mathlib.Core.Path.{_≡_, refl, ap, sym, _∙_, subst}
-use mathlib.Core.List.{List, [], _∷_, _++_}
-use Rattle.choice.specs.Choice.{ifEq, ifLe, eq-case, le-case, upd-same}
-use Rattle.class.specs.Class.{listOf, startOf}
-use Rattle.definition.specs.Calls.{wanted, place, keeps}
-use Rattle.script.specs.Memory.{Memory, Size, Before, Next, Prev, Live, Table, none, root, Write, _at_≔_, apply, apply-append, latest, Untouched, untouched-append}
-use Rattle.script.specs.Script.{Script, read, first, done, stop, run, Gives, _>>=_, _>>_, get, unlessLe, mustEq, mustLe, over, Ends, ends-bind, ends-any, ends-over, ends-gives, inv-get}
+use mathlib.Core.Path.{_≡_, refl, ap, _∙_}
+use mathlib.Core.List.{List, [], _++_}
+use Rattle.choice.specs.Choice.{ifEq, eq-case, le-case, upd-same}
+use Rattle.class.specs.Class.{listOf}
+use Rattle.definition.specs.Calls.{place, keeps}
+use Rattle.script.specs.Memory.{Memory, Prev, Table, none, Write, apply, apply-append, Untouched, untouched-append}
+use Rattle.script.specs.Script.{done, stop, Gives, unlessLe, mustEq, mustLe, over, Ends, ends-bind, ends-any, ends-over, ends-gives, inv-get}
 use Rattle.sound.specs.Strung.{unlinkWrites, pushWrites, unlink-untouched, push-untouched}
 use Rattle.sound.specs.Checks.{wordOf, asFree, asBusy, mustGrain, mustBack, mustList, seeHead, seeBehind, seeBefore, seeOwner, Beside, nobody, somebody}
 use Rattle.sound.specs.Plans.{Plan, leaveScript, padWrites, wholeWrites, splitWrites, freeWrites, leaves, afterwards, bothLeave, roomOf, takeScript, joinScript, giveBackScript, elsewhereScript, downScript, moveScript, stretchScript, growScript, resizeScript}
-use Rattle.sound.specs.RegionPlan.{Looked, Layout, seeRegions, layScript, regionScript}
+use Rattle.sound.specs.RegionPlan.{seeRegions, layScript, regionScript}
 
 -- ---- take, return and resize
 
