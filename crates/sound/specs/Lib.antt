@@ -33,6 +33,7 @@ pub mod Runs
 pub mod PayloadWrites
 pub mod PayloadTake
 pub mod PayloadReturn
+pub mod ResizeSteps
 pub mod PayloadResize
 pub mod PayloadRegions
 pub mod Payloads
