@@ -34,14 +34,15 @@ unfolding takeAt
 take-only h p a nothing v e = cc
 take-only h p a (found k x) v e = granted-only _ _ v e
 
--- the block of a live payload is found
 module _ (h : Heap) (x s d : ℕ) (o : Ordered out (h .blocks)) (b : BlockAt x (used s d) 0 (h .blocks)) where
+  -- the blocks before and behind that of a live payload
   abbrev before : List Block
   before = stands-at x (used s d) (h .blocks) b .before
 
   abbrev behind : List Block
   behind = stands-at x (used s d) (h .blocks) b .behind
 
+  -- which is found by its payload
   live-found : find payload (2 * x + d) [] (h .blocks) ≡ record { before = before; behind = used s d ∷ behind }
   live-found =
       let p = stands-at x (used s d) (h .blocks) b in
@@ -66,6 +67,7 @@ module _ (c : ℕ) (h : Heap) (x s d p a : ℕ) (o : Ok c h) (al : Align a) (b :
           let t = take-granted c h p a z g o al e in
           subst (λ (w : Answer). OnlyNoList (answering z w)) (sym (live-back g x s d (t .ok .order) (t .kept x (used s d) tt b))) (granted-only z _)
 
+  -- step 3, or else step 4
   down-only : (l r : List Block) → OnlyNoList (down c h (2 * x + d) p a l s r)
   unfolding down
   down-only l r = eq-case OnlyNoList (room l) 0 _ _ (λ _. elsewhere-only)

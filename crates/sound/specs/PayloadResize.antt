@@ -51,7 +51,7 @@ module _ (n c p a : ℕ) (m : Memory) (h : Heap) (al : Align a) (o : Sound n c m
 -- ---- the other steps
 
 module _ (n c p a : ℕ) (m : Memory) (f : Lists) (l r : List Block) (s d : ℕ) (al : Align a) (o : Sound n c m (Here f l (used s d) r)) where
-  -- its payload, the neighbour behind as it is seen, and the grains from its free neighbours' start to their end
+  -- as in ResizeSteps
   abbrev q : ℕ
   q = 2 * total l + d
 
@@ -76,6 +76,7 @@ module _ (n c p a : ℕ) (m : Memory) (f : Lists) (l r : List Block) (s d : ℕ)
   stretch-off y t small un a b e = leave-off y t m (leaves next) (total l) (s + room r) (keeps d p) small (behind-off n c m f l r s d o y t small un) a b e
       (after-off m f (skip r (total l + s) f) (leaves next) (skips-behind n c m f l r s d o) y t small (λ u i j k h. un u i j k (fewer-behind n c m f l r s d o k u h)) (listOf (s + room r - keeps d p)))
 
+  -- the payload of another block
   other-spared : (t : Plan) (y i e : ℕ) → Steps t → BlockAt y (used i e) 0 blocks → (2 * y + e ≡ q → ⊥) → 1 ≤ e → Spares y i e (t .writes)
   other-spared t y i e k b ne pe = go k
     where

@@ -68,12 +68,13 @@ module _ (n c : ℕ) (m : Memory) (f : Lists) (l r : List Block) (s d : ℕ) (o 
       (kept-join-back y (used t e) tt l r s d (room l + (s + room r)) refl b)
 
   module _ (y t : ℕ) (small : y + t ≤ none) (un : Unlisted f y t) where
-    -- its neighbours leave their lists
+    -- its neighbour behind leaves its list
     pub behind-off : Spares y t 1 (leaves (beside m r (total l + s)))
     behind-off = subst (λ (b : Beside). Spares y t 1 (leaves b)) (after-none (total l + s) (beside m r (total l + s)))
         (leaves-off m f f [] (relists-none m f (o .heap .exact .apiece) (lists-real n c m (Here f l (used s d) r) o) (o .strung)) y t small un r (total l + s)
         (λ k q i. o .heap .exact .listed (total l + s) k (subst (λ (a : List Block). BlockAt (total l + s) (free k) 0 (l ⟨⟩ used s d ∷ a)) (sym i) (at-here (used s d ∷ l) q (free k)))))
 
+    -- both, one after the other
     pub both-off : Spares y t 1 (bothLeave (beside m r (total l + s)) (total (past l)) (beside m l (total (past l))))
     both-off = spares-append y t 1 (leaves (beside m r (total l + s))) _ behind-off
         (leaves-off m f (skip r (total l + s) f) (leaves (beside m r (total l + s))) (skips-behind n c m f l r s d o) y t small (λ u i j k v. un u i j k (fewer-behind n c m f l r s d o k u v)) l (total (past l))
@@ -97,6 +98,7 @@ module _ (n c : ℕ) (m : Memory) (f : Lists) (l r : List Block) (s d : ℕ) (o 
       ∙ ap (λ (x : ℕ). run m (joinScript n c q x (roomOf b + (s + roomOf a)) (bothLeave a x b))) i
       ∙ ap (λ (x : ℕ). run m (joinScript n c q (total (past l)) x (bothLeave a (total (past l)) b))) j
 
+  -- another used block lies beside the free one that comes
   back-there : (p : Plan) (y t e : ℕ) → Gives m (giveBackScript n c (2 * total l + d)) p → BlockAt y (used t e) 0 (l ⟨⟩ used s d ∷ r) → (2 * y + e ≡ 2 * total l + d → ⊥) → Spares y t 1 (p .writes)
   back-there p y t e g b ne =
       let z = total (past l) in

@@ -89,6 +89,7 @@ module _ (n c p a : ℕ) (m : Memory) (h : Heap) (al : Align a) (o : Sound n c m
             ∙ ap (λ (u : List Write). u ++ (padWrites y (place a y) ++ ((Live at 2 * y + place a y ≔ 1) ∷ []))) (subst (λ (u : ℕ). w ≡ leaveWrites m (unlinkWrites u (m Next y) none) y s (keeps (place a y) p)) (sym li) lw);
       }
 
+  -- what a take gives is such a plan
   pub taking : (t : Plan) → Gives m (takeScript n c p a) t → Taking n c p a m h t
   unfolding takeScript
   taking t g =

@@ -31,6 +31,7 @@ abbrev pub Spares : ℕ → ℕ → ℕ → List Write → Type 0
 Spares y s d [] = Unit {0}
 Spares y s d (w ∷ l) = (w .field < 4 → InPayload (w .field) (w .place) y s d → ⊥) × Spares y s d l
 
+-- one list of writes after another
 pub spares-append : (y s d : ℕ) (v w : List Write) → Spares y s d v → Spares y s d w → Spares y s d (v ++ w)
 spares-append y s d [] w a b = b
 spares-append y s d (u ∷ v) w a b = (a .0, spares-append y s d v w (a .1) b)
@@ -54,6 +55,7 @@ module _ (y s : ℕ) where
   pub table-word : (f x : ℕ) → 4 ≤ f → f < 4 → InPayload f x y s 1 → ⊥
   table-word f x a b = absurd (omega arith)
 
+  -- a block leaves its list
   pub unlink-off : (k x p : ℕ) → Off y s (node k p) → Off y s x → Spares y s 1 (unlinkWrites k x p)
   unlink-off k x p a b = (
     (λ _ i. a (omega arith) (omega arith)),
@@ -62,6 +64,7 @@ module _ (y s : ℕ) where
         (λ _. ((λ _ i. b (omega arith) (omega arith)), tt)),
   )
 
+  -- the block at x goes to the head of a list
   pub push-off : (k x h : ℕ) → y + s ≤ none → Off y s x → Off y s h → Spares y s 1 (pushWrites k x h)
   push-off k x h a b e = eq-case (Spares y s 1) h none _ _ (λ _. (table-word 4 k (omega arith), linked)) (λ _. ((λ _ i. e (omega arith) (omega arith)), linked))
     where
@@ -108,6 +111,7 @@ module _ (m : Memory) (f : Lists) (o : Apiece f) (r : Real f) (st : Strung m f) 
   link-off k x (inl e) a b = omega arith
   link-off k x (inr i) a b = un x a b k i
 
+  -- so is the head of a list
   pub head-off : (k h : ℕ) → h ≡ m Next (root k) → Off y s h
   head-off k h e = rw e (link-off k (m Next (root k)) (head-is (m Next) (m Prev) f o r (st .links) k))
 
@@ -122,10 +126,12 @@ module _ (m : Memory) (f : Lists) (o : Apiece f) (r : Real f) (st : Strung m f) 
 abbrev pub Aside : ℕ → ℕ → ℕ → ℕ → Type 0
 Aside y s x t = (y + s ≤ x) ⊎ (x + t ≤ y)
 
+-- none of them is the block's
 pub aside-off : (y s x t u : ℕ) → Aside y s x t → x ≤ u → u < x + t → Off y s u
 aside-off y s x t u (inl h) i j a b = omega arith
 aside-off y s x t u (inr h) i j a b = omega arith
 
+-- nor does one that begins where they end cut it
 pub aside-edge : (y s x t u : ℕ) → Aside y s x t → x ≤ u → u ≤ x + t → Edge y s u
 aside-edge y s x t u (inl h) i j a b = omega arith
 aside-edge y s x t u (inr h) i j a b = omega arith

@@ -74,7 +74,8 @@ module _ (n c p a : ℕ) (m : Memory) (h : Heap) (al : Align a) (o : Sound n c m
 -- ---- the block found, and which step it is
 
 module _ (n c p a : ℕ) (m : Memory) (f : Lists) (l r : List Block) (s d : ℕ) (al : Align a) (o : Sound n c m (Here f l (used s d) r)) where
-  -- its payload, its end, its neighbours as they are seen, and the writes by which they leave their lists
+  -- its payload; what stands behind it, as it is seen; the grains from its free neighbours' start to their end; and the
+  -- writes by which those leave their lists
   abbrev q : ℕ
   q = 2 * total l + d
 

@@ -23,10 +23,12 @@ pub data Reply : Type 0 where
 
 -- ---- in memory
 
+-- what is heard of one call
 abbrev pub reply : Result Plan → Reply
 reply (ok t) = yes (t .answer)
 reply (no i) = not i
 
+-- what it leaves
 abbrev pub written : Memory → Result Plan → Memory
 written m (ok t) = apply m (t .writes)
 written m (no i) = m
@@ -54,6 +56,7 @@ module _ (n c most : ℕ) where
 
 -- ---- in the definition
 
+-- what is heard of one answer, and the heap that it leaves
 abbrev pub said : Answer → Reply
 said (refused w) = not (number w)
 said (granted v g) = yes v
@@ -62,6 +65,7 @@ abbrev pub left : Heap → Answer → Heap
 left h (refused w) = h
 left h (granted v g) = g
 
+-- and of all, one after the other
 abbrev pub answers : ℕ → Heap → List Call → List Reply
 answers c h [] = []
 answers c h (k ∷ l) = said (answerOf c k h) ∷ answers c (left h (answerOf c k h)) l
@@ -133,6 +137,7 @@ module _ (n c most : ℕ) where
       go (ok t) e = granted-table m k t e
       go (no i) e = omega arith
 
+  -- where there is room a call is fair
   call-fair : (m : Memory) (k : Call) → Aligned k → m Table 0 + regionsOf k ≤ most → Fair m most k
   call-fair m (Take p a) al h = al
   call-fair m (Return q) al h = tt

@@ -20,15 +20,18 @@ use Rattle.sound.specs.RegionPlan.{seeRegions, layScript, regionScript}
 abbrev pub Spared : Plan → Type 0
 Spared t = Untouched Table (t .writes)
 
+-- a block leaves its list, or joins one
 unlinked : (k x p : ℕ) → Untouched Table (unlinkWrites k x p)
 unlinked = unlink-untouched Table (omega arith) (omega arith) (omega arith)
 
 pushed : (k y h : ℕ) → Untouched Table (pushWrites k y h)
 pushed = push-untouched Table (omega arith) (omega arith) (omega arith)
 
+-- the word before a payload
 padded : (x d : ℕ) → Untouched Table (padWrites x d)
 padded x d = eq-case (Untouched Table) (d % 2) 0 _ _ (λ _. ((omega arith), tt)) (λ _. tt)
 
+-- free neighbours leave their lists
 left : (b : Beside) → Untouched Table (leaves b)
 left nobody = tt
 left (somebody t e) = unlinked (listOf t) (e .next) (e .prev)
@@ -36,6 +39,7 @@ left (somebody t e) = unlinked (listOf t) (e .next) (e .prev)
 both-left : (a : Beside) (z : ℕ) (b : Beside) → Untouched Table (bothLeave a z b)
 both-left a z b = untouched-append Table (leaves a) _ (left a) (left (afterwards (leaves a) z b))
 
+-- what is not needed is left
 leave-table : (n c : ℕ) (w : List Write) (x t k : ℕ) → Untouched Table w → Ends (Untouched Table) (leaveScript n c w x t k)
 unfolding leaveScript
 leave-table n c w x t k h = eq-case (Ends (Untouched Table)) k t _ _
@@ -73,6 +77,7 @@ back-table n c q =
     untouched-append Table (bothLeave a z b ++ pushWrites (listOf t) z _) (freeWrites q z t)
     (untouched-append Table (bothLeave a z b) _ (both-left a z b) (pushed (listOf t) z _)) ((omega arith), ((omega arith), ((omega arith), tt)))
 
+-- step 4 of a resize
 elsewhere-table : (n c q p a u : ℕ) → Ends Spared (elsewhereScript n c q p a u)
 unfolding elsewhereScript
 elsewhere-table n c q p a u =
