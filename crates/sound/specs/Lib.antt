@@ -35,5 +35,6 @@ pub mod PayloadTake
 pub mod PayloadReturn
 pub mod ResizeSteps
 pub mod PayloadResize
+pub mod PayloadMoved
 pub mod PayloadRegions
 pub mod Payloads

@@ -34,10 +34,10 @@ module _ (n c p a : ℕ) (m : Memory) (h : Heap) (al : Align a) (o : Sound n c m
       let k = both n c p a m q u t g in
       let i = between n c p a m h al o (k .first) (k .takes) in
       rw (k .writes) (spares-append y s d (k .first .writes) (k .second .writes) (take-spares n c p a m h al o (k .first) y s d (k .takes) b)
-      (back-spares n c (apply m (k .first .writes)) (i .heap) q (k .second) y s d (i .sound) (k .returns) (i .kept y (used s d) tt b) ne))
+      (back-spares n c (apply m (k .first .writes)) (i .heap) q (k .second) y s d (i .sound) (k .returns) (i .grants .kept y (used s d) tt b) ne))
 
   -- a payload that was live is not the one that is handed out
-  elsewhere-other : (q u : ℕ) (t : Plan) (y s d : ℕ) → Gives m (elsewhereScript n c q p a u) t → BlockAt y (used s d) 0 (h .blocks) → t .answer ≡ 2 * y + d → ⊥
+  pub elsewhere-other : (q u : ℕ) (t : Plan) (y s d : ℕ) → Gives m (elsewhereScript n c q p a u) t → BlockAt y (used s d) 0 (h .blocks) → t .answer ≡ 2 * y + d → ⊥
   elsewhere-other q u t y s d g b e =
       let k = both n c p a m q u t g in
       let i = taking n c p a m h al o (k .first) (k .takes) in
@@ -90,8 +90,8 @@ module _ (n c p a : ℕ) (m : Memory) (f : Lists) (l r : List Block) (s d : ℕ)
       ad = both-aside n c m f l r s d o y i e b ne
 
       go : Steps t → Spares y i e (t .writes)
-      go (stays w) = rw w tt
-      go (stretches h w) = spares-from y i e pe (t .writes) (rw w (stretch-off y i small un
+      go (stays j w) = rw w tt
+      go (stretches h j w) = spares-from y i e pe (t .writes) (rw w (stretch-off y i small un
           (aside-edge y i start all (total l) ad (omega (arith, total-past l)) (omega (arith, total-past l)))
           (aside-edge y i start all (total l + (s + room r)) ad (omega (arith, total-past l)) (omega (arith, total-past l)))
           (λ v. aside-off y i start all (total l + keeps d p) ad (omega (arith, total-past l)) (omega (arith, total-past l, v)))))
@@ -111,8 +111,8 @@ module _ (n c p a : ℕ) (m : Memory) (f : Lists) (l r : List Block) (s d : ℕ)
       whole = at-whole (total l) (used s d) 0 out blocks (o .heap .order) here
 
       go : Steps t → Spares (total l) (min s (keeps d p)) d (t .writes)
-      go (stays w) = rw w tt
-      go (stretches h w) = spares-from (total l) (min s (keeps d p)) d (whole .1 .some) (t .writes) (rw w (stretch-off (total l) (min s (keeps d p))
+      go (stays i w) = rw w tt
+      go (stretches h j w) = spares-from (total l) (min s (keeps d p)) d (whole .1 .some) (t .writes) (rw w (stretch-off (total l) (min s (keeps d p))
           (omega (arith, used-small n c m (Here f l (used s d) r) o (total l) s d here))
           (λ u i j. used-unlisted c blocks f (total l) s d (o .heap) here u i (omega arith)) (λ i j. omega arith) (λ i j. omega arith) (λ v i j. omega arith)))
       go (sinks some big fits answer w) = absurd (omega (arith, total-past l))

@@ -15,6 +15,7 @@ pub use Rattle.sound.specs.PayloadWrites.{InPayload, Spares}
 pub use Rattle.sound.specs.PayloadTake.{take-spares}
 pub use Rattle.sound.specs.PayloadReturn.{back-spares}
 pub use Rattle.sound.specs.PayloadResize.{resize-spares, resize-spares-own}
+pub use Rattle.sound.specs.PayloadMoved.{Carried, resize-carries}
 pub use Rattle.sound.specs.PayloadRegions.{region-spares}
 
 -- the call is not about the payload at v

@@ -12,7 +12,7 @@ use Rattle.definition.specs.Order.{BlockAt}
 use Rattle.definition.specs.Neighbours.{total-past}
 use Rattle.definition.specs.Placing.{Align}
 use Rattle.definition.specs.Kept.{Solid}
-use Rattle.definition.specs.Promises.{take-granted}
+use Rattle.definition.specs.Promises.{Granted, take-granted}
 use Rattle.script.specs.Memory.{Memory, Live, Write, _at_≔_, apply}
 use Rattle.script.specs.Script.{run, Gives, goes, inv-bind, inv-done, over, over-run}
 use Rattle.sound.specs.Sound.{Sound}
@@ -55,11 +55,11 @@ module _ (n c p a : ℕ) (m : Memory) where
       }
 
 module _ (n c p a : ℕ) (m : Memory) (h : Heap) (al : Align a) (o : Sound n c m h) where
-  -- the memory between the two is sound, and what was in use is so still
+  -- the memory between the two is sound, for a heap in which the new block is granted
   pub record Between (v : Plan) : Type 0 where
     pub heap : Heap
     pub sound : Sound n c (apply m (v .writes)) heap
-    pub kept : (y : ℕ) (b : Block) → Solid b → BlockAt y b 0 (h .blocks) → BlockAt y b 0 (heap .blocks)
+    pub grants : Granted c h p a (v .answer) heap
 
   -- so it is after a take
   pub between : (v : Plan) → Gives m (takeScript n c p a) v → Between v
@@ -69,7 +69,11 @@ module _ (n c p a : ℕ) (m : Memory) (h : Heap) (al : Align a) (o : Sound n c m
       go (refused w) e k = let z : _≡_ {A = ℕ} 0 1 = cc in absurd (omega arith)
       go (granted q u) e k =
           let i : k .plan ≡ v = (let j = k .gives in cc) in
-          record { heap = u; sound = subst (λ (t : Plan). Sound n c (apply m (t .writes)) u) i (k .sound); kept = take-granted c h p a q u (o .heap) al e .kept }
+          record {
+            heap = u;
+            sound = subst (λ (t : Plan). Sound n c (apply m (t .writes)) u) i (k .sound);
+            grants = subst (λ (z : ℕ). Granted c h p a z u) (sym (k .answer) ∙ ap (λ (t : Plan). t .answer) i) (take-granted c h p a q u (o .heap) al e);
+          }
 
 -- ---- the block found, and which step it is
 
@@ -93,8 +97,8 @@ module _ (n c p a : ℕ) (m : Memory) (f : Lists) (l r : List Block) (s d : ℕ)
 
   -- what is planned: nothing; in place; from the free block before on; elsewhere
   pub data Step (t : Plan) : Type 0 where
-    stays : t .writes ≡ [] → Step t
-    stretches : keeps d p ≤ s + room r → t .writes ≡ leaveWrites m (leaves next) (total l) (s + room r) (keeps d p) → Step t
+    stays : t .answer ≡ q → t .writes ≡ [] → Step t
+    stretches : keeps d p ≤ s + room r → t .answer ≡ q → t .writes ≡ leaveWrites m (leaves next) (total l) (s + room r) (keeps d p) → Step t
     sinks : 1 ≤ room l → s + room r < keeps d p → keeps (place a start) p ≤ all → t .answer ≡ 2 * start + place a start
         → t .writes ≡ leaveWrites m out-both start all (keeps (place a start) p) ++ (padWrites start (place a start) ++ ((Live at q ≔ 0) ∷ (Live at 2 * start + place a start ≔ 1) ∷ [])) → Step t
     moves : (u : ℕ) → Gives m (elsewhereScript n c q p a u) t → Step t
@@ -137,7 +141,8 @@ module _ (n c p a : ℕ) (m : Memory) (f : Lists) (l r : List Block) (s d : ℕ)
       ⊎-elim
       (λ (h : keeps d p ≤ s + roomOf next).
       let i = inv-bind m (leaveScript n c (leaves next) (total l) (s + roomOf next) (keeps d p)) _ (sym (ap (run m) (le-yes (keeps d p) (s + roomOf next) _ _ h)) ∙ g) in
-      stretches (omega arith) (ap (λ (v : Plan). v .writes) (sym (inv-done m _ t (i .2)))
+      let j = inv-done m _ t (i .2) in
+      stretches (omega arith) (ap (λ (v : Plan). v .answer) (sym j)) (ap (λ (v : Plan). v .writes) (sym j)
       ∙ subst (λ (u : ℕ). i .0 ≡ leaveWrites m (leaves next) (total l) (s + u) (keeps d p)) e
       (leave-planned n c m (leaves next) (i .0) (total l) (s + roomOf next) (keeps d p) (head-seen n c m (Here f l (used s d) r) o) (i .1))))
       (λ (h : s + roomOf next < keeps d p). moving t (omega arith) (sym (ap (run m) (le-no (keeps d p) (s + roomOf next) _ _ (omega arith))) ∙ g))
@@ -150,6 +155,7 @@ module _ (n c p a : ℕ) (m : Memory) (f : Lists) (l r : List Block) (s d : ℕ)
       let i : q - 2 * total l ≡ d = omega arith in
       let k : Gives m (growScript n c q p a d (total l) s) t = subst (λ (j : ℕ). Gives m (growScript n c q p a j (total l) s) t) i (sym (goes m (seeOwner q) _ (owner-seen n c m f l r s d o)) ∙ g) in
       ⊎-elim
-      (λ (e : keeps d p ≡ s). stays (ap (λ (v : Plan). v .writes) (sym (inv-done m _ t (sym (ap (run m) (eq-yes (keeps d p) s _ _ e)) ∙ k)))))
+      (λ (e : keeps d p ≡ s). let j = inv-done m _ t (sym (ap (run m) (eq-yes (keeps d p) s _ _ e)) ∙ k) in
+      stays (ap (λ (v : Plan). v .answer) (sym j)) (ap (λ (v : Plan). v .writes) (sym j)))
       (λ (e : keeps d p ≡ s → ⊥). stretching t (sym (ap (run m) (eq-no (keeps d p) s _ _ e) ∙ goes m (seeBehind n c (total l + s)) _ (behind-seen n c m f l r s d o)) ∙ k))
       (same? (keeps d p) s)
