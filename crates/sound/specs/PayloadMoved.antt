@@ -2,9 +2,9 @@
 -- carried there, and the plan's writes are in two parts: the first spares the old payload, the second the new one. So
 -- the words are to be carried between the two. (The first part may write links into the new payload's words, and the
 -- second a header into the old one's: before the first or after the second would be wrong.)
-use Prim.Native.Nat.{ℕ, _+_, _-_, _*_, _/_, _%_, _≤_, _<_}
+use Prim.Native.Nat.{ℕ, _+_, _-_, _*_, _%_, _≤_}
 use native.Mathlib.Omega.{arith}
-use mathlib.Core.Path.{_≡_, refl, ap, sym, _∙_, subst}
+use mathlib.Core.Path.{_≡_, ap, sym, _∙_, subst}
 use mathlib.Core.List.{List, [], _∷_, _++_, append-assoc}
 use mathlib.Core.Logic.{⊎-elim}
 use Rattle.choice.specs.Choice.{ifEq, eq-yes, eq-no, eq-case, same?}
@@ -22,13 +22,13 @@ use Rattle.sound.specs.Sound.{Sound}
 use Rattle.sound.specs.Plans.{Plan, bothLeave, padWrites, wholeWrites, splitWrites, elsewhereScript, resizeScript}
 use Rattle.sound.specs.Leave.{restWrites, leaveWrites}
 use Rattle.sound.specs.SeenBeside.{Here, beside}
-use Rattle.sound.specs.Skips.{skips-both, fewer-both, not-in-both}
+use Rattle.sound.specs.Skips.{skips-both, not-in-both}
 use Rattle.sound.specs.PayloadWrites.{Spares, spares-append, spares-from, Unlisted, used-unlisted, Off, push-off, after-off}
 use Rattle.sound.specs.PayloadTake.{used-small, take-spares}
 use Rattle.sound.specs.PayloadReturn.{both-off, back-spares}
-use Rattle.sound.specs.ResizeSteps.{Between, between, Both, both, Step, stays, stretches, sinks, moves, step}
+use Rattle.sound.specs.ResizeSteps.{between, both, Step, stays, stretches, sinks, moves, step}
 
--- the payload of the block of s grains at y moves from its place d to one with room for p half grains
+-- the payload of the block of s grains at y moves from its place d to one with room for p half grains, which is enough
 pub record Carried (y s d p : ℕ) (t : Plan) : Type 0 where
   pub first : List Write
   pub second : List Write
@@ -38,6 +38,8 @@ pub record Carried (y s d p : ℕ) (t : Plan) : Type 0 where
   pub place : ℕ
   pub answer : t .answer ≡ 2 * start + place
   pub long : place + p ≤ 2 * grains
+  pub moved : t .moved ≡ 2 * s - d
+  pub enough : 2 * s - d ≤ p
   pub old-stays : Spares y s d first
   pub new-stays : Spares start grains place second
 
@@ -73,11 +75,11 @@ module _ (n c p a : ℕ) (m : Memory) (f : Lists) (l r : List Block) (s d : ℕ)
   here = at-here l r (used s d)
 
   -- down into the free block before: the words are carried when the free parts have left their lists
-  sink-carried : (t : Plan) → keeps (place a (total (past l))) p ≤ room l + (s + room r) → t .answer ≡ 2 * total (past l) + place a (total (past l))
+  sink-carried : (t : Plan) → 2 * s - d ≤ p → keeps (place a (total (past l))) p ≤ room l + (s + room r) → t .answer ≡ 2 * total (past l) + place a (total (past l)) → t .moved ≡ 2 * s - d
       → t .writes ≡ leaveWrites m (bothLeave (beside m r (total l + s)) (total (past l)) (beside m l (total (past l)))) (total (past l)) (room l + (s + room r)) (keeps (place a (total (past l))) p)
       ++ (padWrites (total (past l)) (place a (total (past l))) ++ ((Live at 2 * total l + d ≔ 0) ∷ (Live at 2 * total (past l) + place a (total (past l)) ≔ 1) ∷ []))
       → Carried (total l) s d p t
-  sink-carried t fits answer w =
+  sink-carried t enough fits answer moved w =
       let z = total (past l) in
       let e = place a z in
       let k = keeps e p in
@@ -98,6 +100,8 @@ module _ (n c p a : ℕ) (m : Memory) (f : Lists) (l r : List Block) (s d : ℕ)
         place = e;
         answer = answer;
         long = keeps-holds e p;
+        moved = moved;
+        enough = enough;
         old-stays = spares-from (total l) s d (at-whole (total l) (used s d) 0 out (l ⟨⟩ used s d ∷ r) (o .heap .order) here .1 .some) out-both
             (both-off n c m f l r s d o (total l) s (used-small n c m h o (total l) s d here) (used-unlisted c (l ⟨⟩ used s d ∷ r) f (total l) s d (o .heap) here));
         new-stays = spares-append z k e (leftWrites m out-both z i k) (padWrites z e ++ v)
@@ -109,8 +113,8 @@ module _ (n c p a : ℕ) (m : Memory) (f : Lists) (l r : List Block) (s d : ℕ)
 
 module _ (n c p a : ℕ) (m : Memory) (h : Heap) (al : Align a) (o : Sound n c m h) where
   -- elsewhere: the words are carried between the take and the return
-  far-carried : (q u : ℕ) (t : Plan) (y s d : ℕ) → Gives m (elsewhereScript n c q p a u) t → BlockAt y (used s d) 0 (h .blocks) → (t .answer ≡ q → ⊥) → Carried y s d p t
-  far-carried q u t y s d g b ne =
+  far-carried : (q u : ℕ) (t : Plan) (y s d : ℕ) → u ≡ 2 * s - d → 2 * s - d ≤ p → Gives m (elsewhereScript n c q p a u) t → BlockAt y (used s d) 0 (h .blocks) → (t .answer ≡ q → ⊥) → Carried y s d p t
+  far-carried q u t y s d eu enough g b ne =
       let k = both n c p a m q u t g in
       let i = between n c p a m h al o (k .first) (k .takes) in
       let v = i .grants in
@@ -123,6 +127,8 @@ module _ (n c p a : ℕ) (m : Memory) (h : Heap) (al : Align a) (o : Sound n c m
         place = v .d;
         answer = k .answer ∙ v .payload;
         long = v .long;
+        moved = k .moved ∙ eu;
+        enough = enough;
         old-stays = take-spares n c p a m h al o (k .first) y s d (k .takes) b;
         new-stays = back-spares n c (apply m (k .first .writes)) (i .heap) q (k .second) (v .x) (v .s) (v .d) (i .sound) (k .returns) (v .here) (λ e. ne (k .answer ∙ v .payload ∙ e));
       }
@@ -134,8 +140,8 @@ step-carried : (n c p a : ℕ) (m : Memory) (f : Lists) (l r : List Block) (s d 
     → Step n c p a m f l r s d al o t → (t .answer ≡ 2 * total l + d → ⊥) → Carried (total l) s d p t
 step-carried n c p a m f l r s d al o t (stays e w) ne = absurd (ne e)
 step-carried n c p a m f l r s d al o t (stretches h e w) ne = absurd (ne e)
-step-carried n c p a m f l r s d al o t (sinks some big fits answer w) ne = sink-carried n c p a m f l r s d al o t fits answer w
-step-carried n c p a m f l r s d al o t (moves u g) ne = far-carried n c p a m (Here f l (used s d) r) al o (2 * total l + d) u t (total l) s d g (at-here l r (used s d)) ne
+step-carried n c p a m f l r s d al o t (sinks some big fits answer moved w) ne = sink-carried n c p a m f l r s d al o t (omega arith) fits answer moved w
+step-carried n c p a m f l r s d al o t (moves u eu big g) ne = far-carried n c p a m (Here f l (used s d) r) al o (2 * total l + d) u t (total l) s d eu (omega arith) g (at-here l r (used s d)) ne
 
 -- whenever the payload gets another place
 pub resize-carries : (n c q p a : ℕ) (m : Memory) (h : Heap) (t : Plan) (y s d : ℕ) → Align a → Sound n c m h → run m (resizeScript n c q p a) ≡ ok t

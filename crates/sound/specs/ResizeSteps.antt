@@ -8,10 +8,8 @@ use Rattle.choice.specs.Choice.{eq-yes, eq-no, le-yes, le-no, same?, le?}
 use Rattle.definition.specs.Blocks.{Block, used, total, room, past}
 use Rattle.definition.specs.Lists.{Lists}
 use Rattle.definition.specs.Calls.{Heap, Answer, refused, granted, take, place, keeps}
-use Rattle.definition.specs.Order.{BlockAt}
 use Rattle.definition.specs.Neighbours.{total-past}
 use Rattle.definition.specs.Placing.{Align}
-use Rattle.definition.specs.Kept.{Solid}
 use Rattle.definition.specs.Promises.{Granted, take-granted}
 use Rattle.script.specs.Memory.{Memory, Live, Write, _at_≔_, apply}
 use Rattle.script.specs.Script.{run, Gives, goes, inv-bind, inv-done, over, over-run}
@@ -30,16 +28,17 @@ use Rattle.sound.specs.PayloadTake.{leave-planned}
 
 module _ (n c p a : ℕ) (m : Memory) where
   -- the two plans
-  pub record Both (q : ℕ) (t : Plan) : Type 0 where
+  pub record Both (q u : ℕ) (t : Plan) : Type 0 where
     pub first : Plan
     pub second : Plan
     pub takes : Gives m (takeScript n c p a) first
     pub returns : Gives (apply m (first .writes)) (giveBackScript n c q) second
     pub answer : t .answer ≡ first .answer
+    pub moved : t .moved ≡ u
     pub writes : t .writes ≡ first .writes ++ second .writes
 
   -- step 4 is made of them
-  pub both : (q u : ℕ) (t : Plan) → Gives m (elsewhereScript n c q p a u) t → Both q t
+  pub both : (q u : ℕ) (t : Plan) → Gives m (elsewhereScript n c q p a u) t → Both q u t
   unfolding elsewhereScript
   both q u t g =
       let i = inv-bind m (takeScript n c p a) _ g in
@@ -51,6 +50,7 @@ module _ (n c p a : ℕ) (m : Memory) where
         takes = i .1;
         returns = sym (over-run m (i .0 .writes) (giveBackScript n c q) 24 (back-reads n c q)) ∙ j .1;
         answer = ap (λ (v : Plan). v .answer) (sym e);
+        moved = ap (λ (v : Plan). v .moved) (sym e);
         writes = ap (λ (v : Plan). v .writes) (sym e);
       }
 
@@ -99,21 +99,21 @@ module _ (n c p a : ℕ) (m : Memory) (f : Lists) (l r : List Block) (s d : ℕ)
   pub data Step (t : Plan) : Type 0 where
     stays : t .answer ≡ q → t .writes ≡ [] → Step t
     stretches : keeps d p ≤ s + room r → t .answer ≡ q → t .writes ≡ leaveWrites m (leaves next) (total l) (s + room r) (keeps d p) → Step t
-    sinks : 1 ≤ room l → s + room r < keeps d p → keeps (place a start) p ≤ all → t .answer ≡ 2 * start + place a start
+    sinks : 1 ≤ room l → s + room r < keeps d p → keeps (place a start) p ≤ all → t .answer ≡ 2 * start + place a start → t .moved ≡ 2 * s - d
         → t .writes ≡ leaveWrites m out-both start all (keeps (place a start) p) ++ (padWrites start (place a start) ++ ((Live at q ≔ 0) ∷ (Live at 2 * start + place a start ≔ 1) ∷ [])) → Step t
-    moves : (u : ℕ) → Gives m (elsewhereScript n c q p a u) t → Step t
+    moves : (u : ℕ) → u ≡ 2 * s - d → s + room r < keeps d p → Gives m (elsewhereScript n c q p a u) t → Step t
 
   -- step 3
-  sinking : (t : Plan) (u : ℕ) → 1 ≤ room l → s + room r < keeps d p → Gives m (downScript n c q p a u start all out-both) t → Step t
+  sinking : (t : Plan) (u : ℕ) → u ≡ 2 * s - d → 1 ≤ room l → s + room r < keeps d p → Gives m (downScript n c q p a u start all out-both) t → Step t
   unfolding downScript
-  sinking t u some big g = ⊎-elim
+  sinking t u eu some big g = ⊎-elim
       (λ (h : keeps (place a start) p ≤ all).
       let i = inv-bind m (leaveScript n c out-both start all (keeps (place a start) p)) _ (sym (ap (run m) (le-yes (keeps (place a start) p) all _ _ h)) ∙ g) in
       let e = inv-done m _ t (i .2) in
-      sinks some big h (ap (λ (v : Plan). v .answer) (sym e)) (ap (λ (v : Plan). v .writes) (sym e)
+      sinks some big h (ap (λ (v : Plan). v .answer) (sym e)) (ap (λ (v : Plan). v .moved) (sym e) ∙ eu) (ap (λ (v : Plan). v .writes) (sym e)
       ∙ ap (λ (v : List Write). v ++ (padWrites start (place a start) ++ ((Live at q ≔ 0) ∷ (Live at 2 * start + place a start ≔ 1) ∷ [])))
       (leave-planned n c m out-both (i .0) start all (keeps (place a start) p) (head-seen n c m (Here f l (used s d) r) o) (i .1))))
-      (λ (h : all < keeps (place a start) p). moves u (sym (ap (run m) (le-no (keeps (place a start) p) all _ _ (omega arith))) ∙ g))
+      (λ (h : all < keeps (place a start) p). moves u eu big (sym (ap (run m) (le-no (keeps (place a start) p) all _ _ (omega arith))) ∙ g))
       (le? (keeps (place a start) p) all)
 
   -- step 3 or 4
@@ -121,14 +121,15 @@ module _ (n c p a : ℕ) (m : Memory) (f : Lists) (l r : List Block) (s d : ℕ)
   unfolding moveScript
   moving t big g =
       let u = 2 * (total l + s) - q in
+      let eu : u ≡ 2 * s - d = omega arith in
       let b = beside m l start in
       let e : roomOf b ≡ room l = room-seen m l start in
       let i : total l - roomOf b ≡ start = omega (arith, total-past l) in
       let j : roomOf b + (s + roomOf next) ≡ all = omega (arith, room-seen m r (total l + s)) in
       let k = sym (goes m (seeBefore n c (total l)) _ (before-seen n c m f l r s d o)) ∙ g in
       ⊎-elim
-      (λ (z : roomOf b ≡ 0). moves u (sym (ap (run m) (eq-yes (roomOf b) 0 _ _ z)) ∙ k))
-      (λ (z : roomOf b ≡ 0 → ⊥). sinking t u (omega (arith, z)) big
+      (λ (z : roomOf b ≡ 0). moves u eu big (sym (ap (run m) (eq-yes (roomOf b) 0 _ _ z)) ∙ k))
+      (λ (z : roomOf b ≡ 0 → ⊥). sinking t u eu (omega (arith, z)) big
       (subst (λ (x : ℕ). Gives m (downScript n c q p a u start x out-both) t) j
       (subst (λ (x : ℕ). Gives m (downScript n c q p a u x (roomOf b + (s + roomOf next)) (bothLeave next x b)) t) i (sym (ap (run m) (eq-no (roomOf b) 0 _ _ z)) ∙ k))))
       (same? (roomOf b) 0)
