@@ -6,6 +6,7 @@ use mathlib.Core.Path.{_≡_, ap, sym, _∙_}
 use mathlib.Core.Logic.{⊎-elim}
 use Rattle.choice.specs.Choice.{ifEq, eq-yes, eq-no, same?, le?, eq-case}
 
+-- the first of the n places from k on where f is 1, else k + n
 unfoldable pub firstSet : (ℕ → ℕ) → ℕ → ℕ → ℕ
 firstSet f zero k = k
 firstSet f (suc n) k = ifEq (f k) 1 k (firstSet f n (suc k))
@@ -15,21 +16,28 @@ module _ (f : ℕ → ℕ) where
   pub first-from : (n k : ℕ) → k ≤ firstSet f n k
   unfolding firstSet
   first-from zero k = omega arith
-  first-from (suc n) k = eq-case (λ (r : ℕ). k ≤ r) (f k) 1 k (firstSet f n (suc k)) (λ e. omega arith) (λ e. omega (arith, first-from n (suc k)))
+  first-from (suc n) k =
+      eq-case (λ (r : ℕ). k ≤ r) (f k) 1 k (firstSet f n (suc k))
+      (λ e. omega arith)
+      (λ e. omega (arith, first-from n (suc k)))
 
   -- it is at most k + n
   pub first-most : (n k : ℕ) → firstSet f n k ≤ k + n
   unfolding firstSet
   first-most zero k = omega arith
   first-most (suc n) k =
-      eq-case (λ (r : ℕ). r ≤ k + suc n) (f k) 1 k (firstSet f n (suc k)) (λ e. omega arith) (λ e. omega (arith, first-most n (suc k)))
+      eq-case (λ (r : ℕ). r ≤ k + suc n) (f k) 1 k (firstSet f n (suc k))
+      (λ e. omega arith)
+      (λ e. omega (arith, first-most n (suc k)))
 
   -- where it is less, f is 1 there
   pub first-is-set : (n k : ℕ) → firstSet f n k < k + n → f (firstSet f n k) ≡ 1
   unfolding firstSet
   first-is-set zero k = λ h. absurd (omega arith)
   first-is-set (suc n) k =
-      eq-case (λ (r : ℕ). r < k + suc n → f r ≡ 1) (f k) 1 k (firstSet f n (suc k)) (λ e h. e) (λ e h. first-is-set n (suc k) (omega arith))
+      eq-case (λ (r : ℕ). r < k + suc n → f r ≡ 1) (f k) 1 k (firstSet f n (suc k))
+      (λ e h. e)
+      (λ e h. first-is-set n (suc k) (omega arith))
 
   -- f is 1 at no place before it
   pub first-none : (n k j : ℕ) → k ≤ j → j < firstSet f n k → f j ≡ 1 → ⊥
@@ -38,10 +46,23 @@ module _ (f : ℕ → ℕ) where
   first-none (suc n) k j h =
       eq-case (λ (r : ℕ). j < r → f j ≡ 1 → ⊥) (f k) 1 k (firstSet f n (suc k))
       (λ e l. omega arith)
-      (λ ne l e. ⊎-elim
-      (λ (p : j ≤ k). let q : j ≡ k = omega arith in ne (sym (ap f q) ∙ e))
-      (λ (p : k < j). first-none n (suc k) j (omega arith) l e)
-      (le? j k))
+      (λ ne. next ne (λ p. first-none n (suc k) j (omega arith)))
+    where
+      next : (f k ≡ 1 → ⊥) → (k < j → j < firstSet f n (suc k) → f j ≡ 1 → ⊥) → j < firstSet f n (suc k) → f j ≡ 1 → ⊥
+      next ne later l e = ⊎-elim
+          (λ (p : j ≤ k). let q : j ≡ k = omega arith in ne (sym (ap f q) ∙ e))
+          (λ (p : k < j). later p l e)
+          (le? j k)
+
+  -- f is 1 at k: the search ends there
+  pub first-here : (n k : ℕ) → f k ≡ 1 → firstSet f (suc n) k ≡ k
+  unfolding firstSet
+  first-here n k e = eq-yes (f k) 1 k (firstSet f n (suc k)) e
+
+  -- it is not: the search goes on
+  pub first-next : (n k : ℕ) → (f k ≡ 1 → ⊥) → firstSet f (suc n) k ≡ firstSet f n (suc k)
+  unfolding firstSet
+  first-next n k ne = eq-no (f k) 1 k (firstSet f n (suc k)) ne
 
   -- no other number has these four properties
   pub first-is :
@@ -49,16 +70,20 @@ module _ (f : ℕ → ℕ) where
   unfolding firstSet
   first-is zero k j a b none one = omega arith
   first-is (suc n) k j a b none one = ⊎-elim
-      (λ (e : f k ≡ 1). eq-yes (f k) 1 k (firstSet f n (suc k)) e ∙ ⊎-elim
-      (λ (p : j ≤ k). omega arith)
-      (λ (p : k < j). absurd (none k (omega arith) p e))
-      (le? j k))
-      (λ (ne : f k ≡ 1 → ⊥). ⊎-elim
-      (λ (p : j ≤ k). let q : j ≡ k = omega arith in absurd (ne (sym (ap f q) ∙ one (omega arith))))
-      (λ (p : k < j). eq-no (f k) 1 k (firstSet f n (suc k)) ne
-      ∙ first-is n (suc k) j (omega arith) (omega arith) (λ i l. none i (omega arith)) (λ l. one (omega arith)))
-      (le? j k))
+      here
+      (λ (ne : f k ≡ 1 → ⊥).
+      let p = past ne in
+      first-next n k ne ∙ first-is n (suc k) j p (omega arith) (λ i l. none i (omega arith)) (λ l. one (omega arith)))
       (same? (f k) 1)
+    where
+      here : f k ≡ 1 → firstSet f (suc n) k ≡ j
+      here e = first-here n k e ∙ ⊎-elim (λ (p : j ≤ k). omega arith) (λ (p : k < j). absurd (none k (omega arith) p e)) (le? j k)
+
+      past : (f k ≡ 1 → ⊥) → k < j
+      past ne = ⊎-elim
+          (λ (p : j ≤ k). let q : j ≡ k = omega arith in absurd (ne (sym (ap f q) ∙ one (omega arith))))
+          (λ (p : k < j). p)
+          (le? j k)
 
   -- what is found in the first n places is found in more
   pub first-found : (n m k : ℕ) → firstSet f n k < k + n → firstSet f (n + m) k ≡ firstSet f n k

@@ -92,7 +92,9 @@ module _ (t : List ℕ) (k : ℕ) where
     fits = omega arith
 
     -- a table whose bits but k are the same has the same map but at k
-    same-map : (u : List ℕ) → ((j : ℕ) → (k ≡ j → ⊥) → tableBit u j ≡ tableBit t j) → (j : ℕ) → (k ≡ j → ⊥) → mapBit u j ≡ mapBit t j
+    same-map :
+        (u : List ℕ) → ((j : ℕ) → (k ≡ j → ⊥) → tableBit u j ≡ tableBit t j)
+        → (j : ℕ) → (k ≡ j → ⊥) → mapBit u j ≡ mapBit t j
     same-map u same j ne = ⊎-elim
         (λ (p : lists ≤ j). map-bit-none u j p ∙ sym (map-bit-none t j p))
         (λ (p : j < lists). map-bit-is u j p ∙ same j ne ∙ sym (map-bit-is t j p))

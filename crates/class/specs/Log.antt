@@ -24,14 +24,17 @@ unfoldable pub log : ℕ → ℕ
 unfolding logs
 log s = logs s s
 
+-- 1 can't be halved
 logs-stop : (k s : ℕ) → s ≤ 1 → logs (suc k) s ≡ 0
 unfolding logs
 logs-stop k s h = ap (λ (b : Bool). elim b [ true ↦ 0 | false ↦ suc (logs k (s / 2)) ]) (le-leb s 1 h)
 
+-- what is more can be halved once more than its half
 logs-half : (k s : ℕ) → 1 < s → logs (suc k) s ≡ suc (logs k (s / 2))
 unfolding logs
 logs-half k s h = ap (λ (b : Bool). elim b [ true ↦ 0 | false ↦ suc (logs k (s / 2)) ]) (lt-leb s 1 h)
 
+-- with s halvings or more to spare, s is between two powers of two
 logs-top : (k s : ℕ) → 0 < s → s ≤ k → (2 ^ logs k s ≤ s) × (s < 2 ^ (logs k s + 1))
 logs-top zero s h l = absurd (omega arith)
 logs-top (suc k) s h l = ⊎-elim
@@ -42,7 +45,7 @@ logs-top (suc k) s h l = ⊎-elim
     rw (logs-half k s p) (omega (arith, t .0), rw a (omega (arith, t .1))))
     (le? s 1)
 
--- s is between two powers of two
+-- s is at least that power of two, and below the next
 pub log-top : (s : ℕ) → 0 < s → (2 ^ log s ≤ s) × (s < 2 ^ (log s + 1))
 unfolding log
 log-top s h = logs-top s s h (le-refl s)

@@ -1,4 +1,4 @@
--- Recorded answers of rlsf 0.2.3 where document 01 says little, by computation. Bytes, half grains of 16; a refusal is
+-- Recorded answers of rlsf 0.2.3 where a description in words says little, by computation. Bytes, half grains of 16; a refusal is
 -- shown by its number, a granted return by 0.
 use Prim.Native.Nat.{ℕ, zero, suc, _*_}
 use mathlib.Core.Path.{_≡_, refl}
@@ -112,7 +112,7 @@ left-over : (says 4200 (Give 0 131135 ∷ []) ≡ 131072 ∷ []) × (says 4200 (
 unfolding says
 left-over = (refl, refl, refl)
 
-region-ended : says 8 (Give 5 100 ∷ Append 96 96 ∷ Append 96 64 ∷ Append 0 64 ∷ Give 96 64 ∷ []) ≡ 91 ∷ 96 ∷ 4 ∷ 4 ∷ 4 ∷ []
+region-ended : says 12 (Give 5 100 ∷ Append 96 96 ∷ Append 96 64 ∷ Append 0 64 ∷ Append 256 64 ∷ Give 96 64 ∷ []) ≡ 91 ∷ 96 ∷ 4 ∷ 4 ∷ 4 ∷ 4 ∷ []
 unfolding says
 region-ended = refl
 

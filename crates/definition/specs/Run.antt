@@ -1,4 +1,4 @@
--- The worked run of document 01, section 8, by computation. Calls and answers are in bytes, with half grains of 16.
+-- The worked run of docs/HEAP.md, by computation. Calls and answers are in bytes, with half grains of 16.
 use Prim.Native.Nat.{ℕ, zero, suc, _+_, _-_, _*_, _/_}
 use mathlib.Core.Path.{_≡_, refl}
 use mathlib.Core.List.{List, [], _∷_}

@@ -7,8 +7,9 @@ use mathlib.Core.List.{List, [], _∷_, _++_}
 use mathlib.Core.Logic.{_⊎_, inl, inr, ⊎-elim}
 use Rattle.choice.specs.Choice.{ifEq, eq-yes, eq-no, upd, upd-same, upd-other, upd-each, same?}
 use Rattle.definition.specs.Lists.{Lists, remove, push, drop}
-use Rattle.definition.specs.Members.{Mem, NoDup, Parts, parts, Apiece}
+use Rattle.invariants.specs.Members.{Mem, NoDup, Parts, parts, Apiece}
 use Rattle.script.specs.Memory.{none, root}
+use Rattle.sound.specs.Links.{node}
 
 -- from the node n on stands l; w is what the first of l says is before it
 abbrev pub Chain : (ℕ → ℕ) → (ℕ → ℕ) → ℕ → ℕ → List ℕ → Type 0
@@ -93,10 +94,6 @@ chain-unlink nx pv n w y (z ∷ l) m d nn n1 pv' q c = (
 )
 
 -- ---- all lists
-
--- the node before y in list k
-abbrev pub node : ℕ → ℕ → ℕ
-node k p = ifEq p none (root k) p
 
 module _ (nx pv : ℕ → ℕ) (f : Lists) (o : Apiece f) (real : Real f) (h : Links nx pv f) where
   pub not-root : (j k : ℕ) → Mem (root j) (f k) → ⊥

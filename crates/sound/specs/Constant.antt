@@ -9,10 +9,9 @@ use Rattle.class.specs.Class.{listOf, startOf}
 use Rattle.definition.specs.Calls.{wanted, place, keeps}
 use Rattle.script.specs.Memory.{Next, Prev, Before, Live, Mark, none, root, Write, _at_≔_, latest}
 use Rattle.script.specs.Script.{Script, read, first, done, _>>=_, _>>_, get, unlessLe, mustEq, over, AtMost, few-eq, few-le, few-then, few-bind, few-after, over-few, Ends, ends-bind, ends-any, ends-over}
-use Rattle.sound.specs.Chain.{node}
-use Rattle.sound.specs.Strung.{unlinkWrites, pushWrites}
 use Rattle.sound.specs.Checks.{wordOf, asFree, asBusy, mustGrain, mustBack, mustList, seeHead, seeBehind, seeBefore, seeOwner, Beside, nobody, somebody, Owner, few-back, few-head, few-behind, few-before, few-owner, few-free, few-busy}
 use Rattle.sound.specs.Plans.{Plan, leaveScript, wholeWrites, splitWrites, padWrites, freeWrites, leaves, afterwards, bothLeave, roomOf, takeScript, joinScript, giveBackScript, elsewhereScript, downScript, moveScript, stretchScript, growScript, resizeScript}
+use Rattle.sound.specs.Links.{node, unlinkWrites, pushWrites}
 
 -- ---- reads
 

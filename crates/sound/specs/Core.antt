@@ -5,8 +5,8 @@ use mathlib.Core.Path.{_≡_, refl, ap, sym, _∙_, subst}
 use mathlib.Core.List.{List, [], _∷_}
 use Rattle.choice.specs.Choice.{upd, upd-same, upd-other}
 use Rattle.definition.specs.Blocks.{Block, free, used, last, gap, size, total, _⟨⟩_, room, past}
-use Rattle.definition.specs.Order.{Side, Ordered, OrderedL}
-use Rattle.definition.specs.Neighbours.{total-past}
+use Rattle.invariants.specs.Order.{Side, Ordered, OrderedL}
+use Rattle.invariants.specs.Neighbours.{total-past}
 use Rattle.script.specs.Memory.{none, freeWord, usedWord}
 use Rattle.sound.specs.Row.{Row, Left, linkL, row-split, row-join, left-keep, row-relink, left-past, right-past}
 

@@ -8,23 +8,15 @@ use mathlib.Core.Logic.{inl, inr, ⊎-elim}
 use Rattle.definition.specs.Blocks.{Block, free, used, last, gap, size, total, _⟨⟩_}
 use Rattle.definition.specs.Lists.{Lists}
 use Rattle.definition.specs.Calls.{Heap}
-use Rattle.definition.specs.Order.{out, Inside, some, order-split, total-zip, BlockAt, at-here, at-whole, stands-at, Apart, same, before, behind, apart}
-use Rattle.definition.specs.Members.{Mem}
+use Rattle.invariants.specs.Order.{out, Inside, some, order-split, total-zip, BlockAt, at-here, at-whole, stands-at, Apart, same, before, behind, apart}
+use Rattle.invariants.specs.Members.{Mem}
 use Rattle.script.specs.Memory.{Memory, Size, Before, Next, Prev, none, root}
 use Rattle.sound.specs.Row.{Head, linkL, row-split}
 use Rattle.sound.specs.Chain.{Chain, Real}
 use Rattle.sound.specs.Sound.{Sound}
+use Rattle.sound.specs.Seen.{lists-real}
 
 -- ---- the lists
-
--- the members of the lists are grains of the arena
-pub real-lists : (n c : ℕ) (m : Memory) (h : Heap) → Sound n c m h → Real (h .lists)
-real-lists n c m h o k y i =
-    let g = o .heap .exact .there k y i in
-    let st = stands-at y (free (g .0)) (h .blocks) (g .1) in
-    let w : 1 ≤ g .0 = at-whole y (free (g .0)) 0 out (h .blocks) (o .heap .order) (g .1) in
-    let t : total (h .blocks) ≡ total (st .before) + total (free (g .0) ∷ st .behind) = ap total (st .whole) ∙ total-zip (st .before) (free (g .0) ∷ st .behind) in
-    omega (arith, st .place, o .whole, o .small, w, t)
 
 -- a chain is what its node leads to
 pub chain-same : (nx pv : ℕ → ℕ) (n w v : ℕ) (l k : List ℕ) → (Mem none l → ⊥) → (Mem none k → ⊥) → Chain nx pv n w l → Chain nx pv n v k → l ≡ k
@@ -39,7 +31,7 @@ chain-same nx pv n w v (y ∷ l) (z ∷ k) a b c d =
 -- so the roots decide all lists
 same-lists : (n c : ℕ) (m : Memory) (h k : Heap) → Sound n c m h → Sound n c m k → (j : ℕ) → h .lists j ≡ k .lists j
 same-lists n c m h k a b j = chain-same (m Next) (m Prev) (root j) none none (h .lists j) (k .lists j)
-    (λ i. omega (arith, real-lists n c m h a j none i)) (λ i. omega (arith, real-lists n c m k b j none i)) (a .strung .links j) (b .strung .links j)
+    (λ i. omega (arith, lists-real n c m h a j none i)) (λ i. omega (arith, lists-real n c m k b j none i)) (a .strung .links j) (b .strung .links j)
 
 -- ---- the blocks
 

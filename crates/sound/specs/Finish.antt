@@ -8,9 +8,9 @@ use Rattle.choice.specs.Choice.{ifEq, eq-yes, eq-no, eq-case, upd, upd-same, up
 use Rattle.definition.specs.Blocks.{Block, free, used, last, gap}
 use Rattle.definition.specs.Lists.{Lists}
 use Rattle.definition.specs.Calls.{Heap}
-use Rattle.definition.specs.Members.{Mem}
-use Rattle.definition.specs.Order.{BlockAt}
-use Rattle.definition.specs.Moves.{Sane, Ok}
+use Rattle.invariants.specs.Members.{Mem}
+use Rattle.invariants.specs.Order.{BlockAt}
+use Rattle.invariants.specs.Moves.{Sane, Ok}
 use Rattle.script.specs.Memory.{Memory, Size, Before, Next, Prev, Mark, Live, Table, none, root, Write, _at_≔_, apply, apply-append, apply-alike, apply-untouched, apply-spared, Untouched, Spared, untouched-append, spared-append}
 use Rattle.sound.specs.Row.{Row}
 use Rattle.sound.specs.Chain.{chain-keep}

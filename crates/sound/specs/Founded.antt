@@ -9,9 +9,9 @@ use Rattle.choice.specs.Choice.{ifEq, eq-yes, eq-no}
 use Rattle.definition.specs.Blocks.{Block, free, used, total}
 use Rattle.definition.specs.Lists.{Lists}
 use Rattle.definition.specs.Calls.{Heap}
-use Rattle.definition.specs.Order.{out, some, Ordered, BlockAt, at-whole, Apart, same, before, behind, apart}
-use Rattle.definition.specs.Members.{Mem}
-use Rattle.definition.specs.Moves.{Sane}
+use Rattle.invariants.specs.Order.{out, some, Ordered, BlockAt, at-whole, Apart, same, before, behind, apart, at-end}
+use Rattle.invariants.specs.Members.{Mem}
+use Rattle.invariants.specs.Moves.{Sane}
 use Rattle.script.specs.Memory.{Memory, Size, Before, Next, Prev, Mark, none, root}
 use Rattle.script.specs.Script.{Script, Gives, run, gives-bind, gives-get, gives-eq, gives-done, mustEq, _>>=_, _>>_}
 use Rattle.sound.specs.Row.{Row}
@@ -20,8 +20,7 @@ use Rattle.sound.specs.Strung.{Strung, Marked}
 use Rattle.sound.specs.Sound.{Lively, Padded, Sound}
 use Rattle.sound.specs.Checks.{mustGrain, mustLead, seeHead}
 use Rattle.sound.specs.Swaps.{pad-inside}
-use Rattle.sound.specs.Settle.{at-end}
-use Rattle.sound.specs.Seen.{gives-grain, gives-lead}
+use Rattle.sound.specs.Seen.{gives-grain, gives-lead, head-strung}
 
 pub record Founded (n c : ℕ) (m : Memory) (xs : List Block) (f : Lists) : Type 0 where
   pub heap : Sane c xs f
@@ -35,37 +34,6 @@ pub record Founded (n c : ℕ) (m : Memory) (xs : List Block) (f : Lists) : Type
 -- every sound memory is founded
 pub sound-founded : (n c : ℕ) (m : Memory) (h : Heap) → Sound n c m h → Founded n c m (h .blocks) (h .lists)
 sound-founded n c m h b = record { heap = b .heap; whole = b .whole; small = b .small; row = b .row; strung = b .strung; lively = b .lively; padded = b .padded }
-
--- one block at one place
-pub one-block : (y : ℕ) (b d : Block) (xs : List Block) → Ordered out xs → BlockAt y b 0 xs → BlockAt y d 0 xs → b ≡ d
-one-block y b d xs o h k = go (apart y y 0 b d xs h k)
-  where
-    go : Apart y b y d → b ≡ d
-    go (same e q) = q
-    go (before e) = absurd (omega (arith, some b (at-whole y b 0 out xs o h)))
-    go (behind e) = absurd (omega (arith, some d (at-whole y d 0 out xs o k)))
-
--- ---- the head of a list is seen
-
--- what seeHead checks
-abbrev headCheck : ℕ → ℕ → ℕ → Script (Unit {0})
-headCheck n h b = ifEq h none (mustEq b 0) (mustGrain n h >> (mustEq b 1 >> mustLead Prev h none))
-
--- for that the lists are strung, and their members are grains
-pub head-strung : (n : ℕ) (m : Memory) (f : Lists) (k : ℕ) → n ≤ none → Strung m f → ((y : ℕ) → Mem y (f k) → y < n) → Gives m (seeHead n k) (m Next (root k))
-unfolding seeHead
-head-strung n m f k small s inside = gives-get m Next (root k) _ refl (gives-get m Mark k _ refl
-    (gives-bind m (headCheck n (m Next (root k)) (m Mark k)) _ (go (f k) (s .links k) (s .marks k) inside) (gives-done m _)))
-  where
-    go : (l : List ℕ) → Chain (m Next) (m Prev) (root k) none l → Marked (m Mark k) l → ((y : ℕ) → Mem y l → y < n)
-        → Gives m (headCheck n (m Next (root k)) (m Mark k)) (tt {0})
-    go [] c e b = ap (run m) (eq-yes (m Next (root k)) none _ _ c) ∙ gives-eq m 5 (m Mark k) 0 e
-    go (y ∷ l) c e b =
-        let i : m Next (root k) < n = omega (arith, c .0, b y (inl refl)) in
-        ap (run m) (eq-no (m Next (root k)) none _ _ (λ q. omega arith))
-        ∙ gives-bind m (mustGrain n (m Next (root k))) _ (gives-grain m n (m Next (root k)) i)
-        (gives-bind m (mustEq (m Mark k) 1) _ (gives-eq m 5 (m Mark k) 1 e)
-        (gives-lead m Prev (m Next (root k)) none (ap (m Prev) (c .0) ∙ c .1)))
 
 module _ (n c : ℕ) (m : Memory) (xs : List Block) (f : Lists) (o : Founded n c m xs f) where
   -- a member of a list is a grain

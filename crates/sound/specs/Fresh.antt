@@ -7,9 +7,9 @@ use mathlib.Core.Logic.{inl, inr, ⊎-elim}
 use Rattle.choice.specs.Choice.{same?}
 use Rattle.definition.specs.Blocks.{Block, free, used, gap, total, gaps}
 use Rattle.definition.specs.Calls.{empty}
-use Rattle.definition.specs.Order.{out, Ordered, BlockAt}
-use Rattle.definition.specs.Pieces.{Listed, pieces}
-use Rattle.definition.specs.Moves.{Ok, free-gap}
+use Rattle.invariants.specs.Order.{out, Ordered, BlockAt}
+use Rattle.invariants.specs.Pieces.{Listed, pieces}
+use Rattle.invariants.specs.Moves.{Ok, free-gap}
 use Rattle.script.specs.Memory.{Memory, Next, Mark, Live, Table, none, root}
 use Rattle.sound.specs.Row.{Row}
 use Rattle.sound.specs.Sound.{Sound}

@@ -9,19 +9,20 @@ use Rattle.class.specs.Class.{listOf}
 use Rattle.definition.specs.Blocks.{Block, free, used, last, gap, size, total, _⟨⟩_, gaps}
 use Rattle.definition.specs.Lists.{Lists, push}
 use Rattle.definition.specs.Calls.{Laid, lay}
-use Rattle.definition.specs.Order.{out, sideL, Ordered, order-split, total-zip, BlockAt, LeftAt, at-split, at-join}
-use Rattle.definition.specs.Moves.{free-used, free-gap}
-use Rattle.definition.specs.Gaps.{total-gaps, gaps-add, gaps-zip, gaps-at, gaps-behind, gaps-cases, gap-used}
-use Rattle.definition.specs.Regions.{piece-ok, two-grains, gap-out}
+use Rattle.invariants.specs.Order.{out, sideL, Ordered, order-split, total-zip, BlockAt, LeftAt, at-split, at-join, one-block}
+use Rattle.invariants.specs.Moves.{free-used, free-gap}
+use Rattle.invariants.specs.Gaps.{total-gaps, gaps-add, gaps-zip, gaps-at, gaps-behind, gaps-cases, gap-used}
+use Rattle.invariants.specs.Regions.{piece-ok, two-grains, gap-out}
 use Rattle.script.specs.Memory.{Memory, Size, Before, Next, Prev, Mark, Live, Table, none, root, freeWord, lastWord, Write, _at_≔_, apply, apply-append, Untouched, apply-untouched, untouched-append}
 use Rattle.script.specs.Script.{Script, Gives, run, over, over-run, goes, gives-done, _>>=_}
 use Rattle.sound.specs.Row.{Row, Left, linkL, row-split, row-join, left-keep, row-keep}
-use Rattle.sound.specs.Strung.{pushWrites, push-untouched}
+use Rattle.sound.specs.Strung.{push-untouched}
 use Rattle.sound.specs.Checks.{seeHead, few-head}
 use Rattle.sound.specs.RegionPlan.{pieceWrites, Layout, layScript}
 use Rattle.sound.specs.Relists.{Relists, relists-push}
 use Rattle.sound.specs.Swaps.{pad-free}
-use Rattle.sound.specs.Founded.{Founded, one-block, founded-real, head-founded, pad-grain}
+use Rattle.sound.specs.Founded.{Founded, founded-real, head-founded, pad-grain}
+use Rattle.sound.specs.Links.{pushWrites}
 
 -- ---- what stands before a piece
 

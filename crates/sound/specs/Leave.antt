@@ -9,15 +9,16 @@ use Rattle.class.specs.Class.{listOf}
 use Rattle.definition.specs.Blocks.{Block, free, used, last, gap, size, total, _⟨⟩_}
 use Rattle.definition.specs.Lists.{Lists, push}
 use Rattle.definition.specs.Calls.{Heap, leave}
-use Rattle.definition.specs.Order.{Side, idle, Ordered, OrderedL}
+use Rattle.invariants.specs.Order.{Side, idle, Ordered, OrderedL}
 use Rattle.script.specs.Memory.{Memory, Size, Before, Next, Prev, Mark, Live, Table, none, root, usedWord, Write, apply, latest, apply-is, apply-append, apply-untouched}
 use Rattle.script.specs.Script.{Script, done, Gives, gives-bind, gives-done, gives-le}
 use Rattle.sound.specs.Row.{Row}
-use Rattle.sound.specs.Strung.{Strung, pushWrites}
+use Rattle.sound.specs.Strung.{Strung}
 use Rattle.sound.specs.Checks.{seeHead, mustList}
 use Rattle.sound.specs.Plans.{leaveScript, wholeWrites, splitWrites}
 use Rattle.sound.specs.Core.{Core, row-used, row-split-used, splitSize, splitBefore}
 use Rattle.sound.specs.Relists.{Relists, NotIn, Fewer, relists-push, relists-then}
+use Rattle.sound.specs.Links.{pushWrites}
 
 -- the writes, where the memory before was m
 abbrev pub restWrites : Memory → List Write → ℕ → ℕ → ℕ → List Write

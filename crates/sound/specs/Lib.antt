@@ -1,30 +1,39 @@
--- How a memory stands for a heap: read Row, Chain and Sound for the relation.
+-- What each call reads, checks and writes, on any memory; how a memory stands for a heap; and that on such a memory each
+-- call does what the definition says.
+
+-- the scripts: the parts, the calls, and how many words they take
+pub mod Links
+pub mod Checks
+pub mod Plans
+pub mod RegionPlan
+pub mod Constant
+-- the relation: the blocks, the lists, all of it; what it is worth
 pub mod Row
 pub mod Chain
 pub mod Strung
 pub mod Sound
-pub mod Checks
-pub mod Plans
-pub mod RegionPlan
 pub mod Meets
-pub mod Constant
+pub mod Determined
+pub mod Fresh
+-- steps of the proofs: the checks go through; rows and lists after the writes; what is left to show
+pub mod Seen
+pub mod SeenBeside
 pub mod Core
 pub mod Relists
 pub mod Leave
 pub mod Swaps
 pub mod Finish
 pub mod Settle
-pub mod TakeSound
-pub mod Seen
-pub mod SeenBeside
-pub mod Determined
-pub mod Fresh
 pub mod Skips
-pub mod ReturnSound
-pub mod ResizeSound
 pub mod Founded
 pub mod Laying
 pub mod RegionTable
+-- the calls
+pub mod TakeSound
+pub mod ReturnSound
+pub mod ResizeInPlace
+pub mod ResizeDown
+pub mod ResizeSound
 pub mod RegionSound
 pub mod Calls
 pub mod LiveResize

@@ -8,7 +8,7 @@ use Rattle.script.specs.Script.{Script, Result, ok, no, run}
 use Rattle.sound.specs.Sound.{Sound}
 use Rattle.sound.specs.Plans.{Plan}
 
--- the numbers of document 01, section 9
+-- the numbers that a caller sees
 abbrev pub number : Refusal → ℕ
 number noList = 1
 number notLive = 3

@@ -7,8 +7,8 @@ use Rattle.class.specs.Class.{listOf, startOf}
 use Rattle.definition.specs.Calls.{wanted, place, keeps}
 use Rattle.script.specs.Memory.{Size, Before, Next, Prev, Mark, Live, Table, none, root, freeWord, usedWord, Write, _at_≔_, latest}
 use Rattle.script.specs.Script.{Script, read, first, done, stop, _>>=_, _>>_, get, unlessLe, mustEq, mustLe, over}
-use Rattle.sound.specs.Strung.{unlinkWrites, pushWrites}
 use Rattle.sound.specs.Checks.{wordOf, mustGrain, mustLead, mustBack, mustBusy, mustFree, mustList, Entry, seeEntry, seeHead, Beside, nobody, somebody, seeBehind, seeBefore, Owner, seeOwner}
+use Rattle.sound.specs.Links.{unlinkWrites, pushWrites}
 
 -- the answer, what is written, and how many half grains at the old payload may have to be moved to the new one
 pub record Plan : Type 0 where

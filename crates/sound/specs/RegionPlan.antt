@@ -6,9 +6,9 @@ use Rattle.choice.specs.Choice.{ifEq, ifLe}
 use Rattle.class.specs.Class.{listOf}
 use Rattle.script.specs.Memory.{Size, Before, Table, none, freeWord, lastWord, Write, _at_≔_}
 use Rattle.script.specs.Script.{Script, read, done, stop, _>>=_, _>>_, get, unlessEq, unlessLe, mustEq, mustLe, over}
-use Rattle.sound.specs.Strung.{pushWrites}
 use Rattle.sound.specs.Checks.{seeHead}
 use Rattle.sound.specs.Plans.{Plan}
+use Rattle.sound.specs.Links.{pushWrites}
 
 -- what the table says: 1 where a region ends at g, and 1 where an entry can't be right
 pub record Looked : Type 0 where

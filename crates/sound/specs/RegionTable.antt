@@ -8,9 +8,9 @@ use Rattle.choice.specs.Choice.{ifEq, ifLe, eq-case, eq-yes, eq-no, le?, le-yes
 use Rattle.definition.specs.Blocks.{Block, gap, total, _⟨⟩_, gaps}
 use Rattle.definition.specs.Lists.{Lists}
 use Rattle.definition.specs.Calls.{Laid, lay}
-use Rattle.definition.specs.Order.{out, Ordered, order-split, total-zip, BlockAt, LeftAt, at-split, at-join, at-low, left-lt}
-use Rattle.definition.specs.Gaps.{Spot, spot-inside, total-gaps, gaps-at, gaps-behind, gaps-cases}
-use Rattle.definition.specs.Regions.{lay-total, lay-gap, lay-old, lay-some}
+use Rattle.invariants.specs.Order.{out, Ordered, order-split, total-zip, BlockAt, LeftAt, at-split, at-join, at-low, left-lt}
+use Rattle.invariants.specs.Gaps.{Spot, spot-inside, total-gaps, gaps-at, gaps-behind, gaps-cases}
+use Rattle.invariants.specs.Regions.{lay-total, lay-gap, lay-old, lay-some}
 use Rattle.script.specs.Memory.{Memory, Table}
 use Rattle.script.specs.Script.{Script, Gives, Result, ok, no, run, done, stop, reads, goes, halts, gives-le, gives-done, halts-le, unlessLe, _>>=_, _>>_}
 use Rattle.sound.specs.Sound.{InTable, Given}

@@ -9,10 +9,11 @@ use Rattle.choice.specs.Choice.{ifEq, upd-same}
 use Rattle.class.specs.Class.{listOf}
 use Rattle.definition.specs.Blocks.{Block, free, used, last, gap}
 use Rattle.definition.specs.Lists.{Lists, push, drop, skip}
-use Rattle.definition.specs.Members.{Mem, Apiece, apiece-drop, apiece-push, mem-drop, mem-push}
+use Rattle.invariants.specs.Members.{Mem, Apiece, apiece-drop, apiece-push, mem-drop, mem-push}
 use Rattle.script.specs.Memory.{Memory, Size, Before, Next, Prev, Mark, Live, Table, none, root, Write, apply, latest, apply-is, apply-append, apply-spared, Untouched, untouched-append}
 use Rattle.sound.specs.Chain.{Real, head-is, next-mem}
-use Rattle.sound.specs.Strung.{Strung, unlinkWrites, pushWrites, strung-unlink, strung-push, unlink-untouched, push-untouched, unlink-spares, push-spares}
+use Rattle.sound.specs.Strung.{Strung, strung-unlink, strung-push, unlink-untouched, push-untouched, unlink-spares, push-spares}
+use Rattle.sound.specs.Links.{unlinkWrites, pushWrites}
 
 -- y is in no list
 abbrev pub NotIn : Lists → ℕ → Type 0

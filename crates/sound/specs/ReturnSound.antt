@@ -11,15 +11,14 @@ use Rattle.class.specs.Class.{listOf}
 use Rattle.definition.specs.Blocks.{Block, free, used, gap, size, total, _⟨⟩_, Place, room, past}
 use Rattle.definition.specs.Lists.{Lists, push, skip}
 use Rattle.definition.specs.Calls.{Heap, granted, join, giveBackAt, giveBack}
-use Rattle.definition.specs.Order.{out, busy, idle, Inside, Ordered, OrderedL, order-split, total-zip, BlockAt, at-here, stands-at, Apart, same, before, behind, apart, at-whole, payload-at}
-use Rattle.definition.specs.Moves.{Ok, free-used}
-use Rattle.definition.specs.Neighbours.{total-past, orderL-past, order-past, join-ok}
-use Rattle.definition.specs.Kept.{kept-join, kept-join-back}
-use Rattle.definition.specs.NotLive.{not-live-back}
+use Rattle.invariants.specs.Order.{out, busy, idle, Inside, Ordered, OrderedL, order-split, total-zip, BlockAt, at-here, stands-at, Apart, same, before, behind, apart, at-whole, payload-at}
+use Rattle.invariants.specs.Moves.{Ok, free-used}
+use Rattle.invariants.specs.Neighbours.{total-past, orderL-past, order-past, join-ok}
+use Rattle.invariants.specs.Kept.{kept-join, kept-join-back}
+use Rattle.invariants.specs.NotLive.{not-live-back}
 use Rattle.script.specs.Memory.{Memory, Size, Before, Next, Prev, Mark, Live, Table, none, root, freeWord, Write, apply, latest, apply-is, apply-append, apply-untouched}
 use Rattle.script.specs.Script.{Gives, gives-bind, gives-done, gives-le, halts}
 use Rattle.sound.specs.Row.{Row}
-use Rattle.sound.specs.Strung.{pushWrites}
 use Rattle.sound.specs.Sound.{Sound, Lively, Padded, Given}
 use Rattle.sound.specs.Checks.{mustList, seeHead, seeOwner, seeBehind, seeBefore}
 use Rattle.sound.specs.Plans.{Plan, roomOf, bothLeave, freeWrites, joinScript, giveBackScript}
@@ -31,6 +30,9 @@ use Rattle.sound.specs.Swaps.{Swaps, lively-drop, pad-inside, pad-free, 
 use Rattle.sound.specs.Seen.{not-owner, head-seen}
 use Rattle.sound.specs.SeenBeside.{Here, beside, room-seen, owner-seen, behind-seen, before-seen, merged-list}
 use Rattle.sound.specs.Skips.{skips-both, fewer-both, not-in-both}
+use Rattle.sound.specs.Links.{pushWrites}
+use Rattle.invariants.specs.Gaps.{gap-used}
+use Rattle.sound.specs.Settle.{pad-some}
 
 -- ---- the plan
 
@@ -49,20 +51,6 @@ unfolding joinScript
 join-gives n c m q z t w i h = gives-bind m (mustList c t) _ (gives-le m 5 _ _ (omega arith)) (gives-bind m (seeHead n (listOf t)) _ h (gives-done m _))
 
 -- ---- blocks of the heap
-
--- a block ends in the arena
-pub block-end : (y : ℕ) (b : Block) (A : List Block) → BlockAt y b 0 A → y + size b ≤ total A
-block-end y b A h = let p = stands-at y b A h in omega (arith, p .place, ap total (p .whole), total-zip (p .before) (b ∷ p .behind))
-
--- the word before a payload is one of the arena
-pub pad-real : (n c : ℕ) (m : Memory) (h : Heap) → Sound n c m h → (y t e : ℕ) → BlockAt y (used t e) 0 (h .blocks) → e % 2 ≡ 0 → y + e / 2 - 1 ≡ none → ⊥
-pad-real n c m h o y t e b v p =
-    let w = at-whole y (used t e) 0 out (h .blocks) (o .heap .order) b in
-    omega (arith, pad-inside y t e (w .1) v, block-end y (used t e) (h .blocks) b, o .whole, o .small)
-
--- no used block is a gap
-used-gap : {s d : ℕ} → used s d ≡ gap → ⊥
-used-gap e = let z : _≡_ {A = ℕ} 0 1 = cc in omega arith
 
 -- the definition finds the block
 give-back-found : (f : Lists) (l r : List Block) (s d : ℕ) → OrderedL l → 1 ≤ d → giveBack (Here f l (used s d) r) (2 * total l + d) ≡ granted 0 (join f l s r)
@@ -162,13 +150,13 @@ module _ (n c : ℕ) (m : Memory) (f : Lists) (l r : List Block) (s d : ℕ) (o 
   padded : Padded end new
   padded = padded-change m end old new (total l) (used s d) start (free merged) (o .padded) swaps
       (λ k e p v. absurd (free-used (sym p)))
-      (λ y t e a b v. relisted .quiet (y + e / 2 - 1) (pad-real n c m (Here f l (used s d) r) o y t e a v)
+      (λ y t e a b v. relisted .quiet (y + e / 2 - 1) (pad-some n c m (Here f l (used s d) r) o y t e a v)
       (pad-free c old f y t e (o .heap) a v) (pad-free c new lists y t e sane b v))
 
   -- no grain was given or taken away
   given : Given end new
   given = given-same m end old new (o .given) (untouched Table (omega arith) (omega arith) (omega arith)) same-total
-      (λ y h. ⊎-elim (λ (p : (y ≡ total l) × (used s d ≡ gap)). absurd (used-gap (p .1))) (λ (i : BlockAt y gap 0 new). i) (swaps .forth y gap tt h))
+      (λ y h. ⊎-elim (λ (p : (y ≡ total l) × (used s d ≡ gap)). absurd (gap-used (p .1))) (λ (i : BlockAt y gap 0 new). i) (swaps .forth y gap tt h))
       (λ y h. kept-join y gap tt l r s d merged refl h)
 
   -- so the memory stands for the heap

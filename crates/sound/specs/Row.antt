@@ -6,7 +6,7 @@ use native.Mathlib.Nat.{add-zero}
 use mathlib.Core.Path.{_≡_, refl, ap, sym, _∙_}
 use mathlib.Core.List.{List, [], _∷_}
 use Rattle.definition.specs.Blocks.{Block, free, used, last, gap, size, total, _⟨⟩_, room, past}
-use Rattle.definition.specs.Order.{Side, Whole, Ordered, OrderedL, some}
+use Rattle.invariants.specs.Order.{Side, Whole, Ordered, OrderedL, some}
 use Rattle.script.specs.Memory.{none, freeWord, usedWord, lastWord}
 
 -- what the header at x says, if p is the block before

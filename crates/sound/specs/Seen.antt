@@ -8,17 +8,19 @@ use mathlib.Core.Logic.{inl, ⊎-elim}
 use Rattle.choice.specs.Choice.{ifEq, eq-yes, eq-no, eq-case}
 use Rattle.class.specs.Class.{listOf, list-small}
 use Rattle.definition.specs.Blocks.{Block, free, used, last, gap, total, _⟨⟩_}
+use Rattle.definition.specs.Lists.{Lists}
 use Rattle.definition.specs.Calls.{Heap}
-use Rattle.definition.specs.Order.{idle, Ordered, order-split, total-zip, BlockAt, stands-at}
-use Rattle.definition.specs.Members.{Mem}
-use Rattle.definition.specs.Pieces.{free-listed}
+use Rattle.invariants.specs.Order.{idle, Ordered, order-split, total-zip, BlockAt, stands-at}
+use Rattle.invariants.specs.Members.{Mem}
+use Rattle.invariants.specs.Pieces.{free-listed}
 use Rattle.script.specs.Memory.{Memory, Size, Before, Next, Prev, Mark, Live, none, root, freeWord, usedWord, lastWord}
 use Rattle.script.specs.Script.{Script, read, _>>=_, _>>_, run, no, unlessEq, mustEq, mustDiffer, Gives, gives-bind, gives-get, gives-eq, gives-le, gives-differ, gives-done, reads, halts, halts-eq}
 use Rattle.sound.specs.Row.{Row, row-split}
-use Rattle.sound.specs.Chain.{Chain, Real, node, next-mem, prev-mem, node-leads, next-back}
-use Rattle.sound.specs.Strung.{Marked, mark-of}
+use Rattle.sound.specs.Chain.{Chain, Real, next-mem, prev-mem, node-leads, next-back}
+use Rattle.sound.specs.Strung.{Strung, Marked, mark-of}
 use Rattle.sound.specs.Sound.{Sound}
 use Rattle.sound.specs.Checks.{Word, isFree, isUsed, isLast, wordOf, mustGrain, mustLead, mustBack, asBusy, asFree, asUsed, mustBusy, mustFree, mustUsed, seePrev, seeEntry, seeHead, seeOwner}
+use Rattle.sound.specs.Links.{node}
 
 -- ---- what the three size words say
 
@@ -65,6 +67,28 @@ module _ (m : Memory) where
   pub not-owner : (q : ℕ) → (m Live q ≡ 1 → ⊥) → run m (seeOwner q) ≡ no 3
   unfolding seeOwner
   not-owner q n = reads m Live q _ refl ∙ halts m (unlessEq 3 (m Live q) 1) _ (halts-eq m 3 (m Live q) 1 n)
+
+-- ---- the head of a list is seen
+
+-- what seeHead checks
+abbrev headCheck : ℕ → ℕ → ℕ → Script (Unit {0})
+headCheck n h b = ifEq h none (mustEq b 0) (mustGrain n h >> (mustEq b 1 >> mustLead Prev h none))
+
+-- for that the lists are strung, and their members are grains
+pub head-strung : (n : ℕ) (m : Memory) (f : Lists) (k : ℕ) → n ≤ none → Strung m f → ((y : ℕ) → Mem y (f k) → y < n) → Gives m (seeHead n k) (m Next (root k))
+unfolding seeHead
+head-strung n m f k small s inside = gives-get m Next (root k) _ refl (gives-get m Mark k _ refl
+    (gives-bind m (headCheck n (m Next (root k)) (m Mark k)) _ (go (f k) (s .links k) (s .marks k) inside) (gives-done m _)))
+  where
+    go : (l : List ℕ) → Chain (m Next) (m Prev) (root k) none l → Marked (m Mark k) l → ((y : ℕ) → Mem y l → y < n)
+        → Gives m (headCheck n (m Next (root k)) (m Mark k)) (tt {0})
+    go [] c e b = ap (run m) (eq-yes (m Next (root k)) none _ _ c) ∙ gives-eq m 5 (m Mark k) 0 e
+    go (y ∷ l) c e b =
+        let i : m Next (root k) < n = omega (arith, c .0, b y (inl refl)) in
+        ap (run m) (eq-no (m Next (root k)) none _ _ (λ q. omega arith))
+        ∙ gives-bind m (mustGrain n (m Next (root k))) _ (gives-grain m n (m Next (root k)) i)
+        (gives-bind m (mustEq (m Mark k) 1) _ (gives-eq m 5 (m Mark k) 1 e)
+        (gives-lead m Prev (m Next (root k)) none (ap (m Prev) (c .0) ∙ c .1)))
 
 -- ---- free blocks
 
@@ -179,24 +203,7 @@ module _ (n c : ℕ) (m : Memory) (h : Heap) (o : Sound n c m h) where
 
   -- the head of any list, empty or not
   pub head-seen : (k : ℕ) → Gives m (seeHead n k) (m Next (root k))
-  unfolding seeHead
-  head-seen k =
-      gives-get m Next (root k) _ refl
-      (gives-get m Mark k _ refl
-      (gives-bind m _ _ (go (h .lists k) (o .strung .links k) (o .strung .marks k) (member-inside k)) (gives-done m _)))
-    where
-      go : (l : List ℕ) → Chain (m Next) (m Prev) (root k) none l → Marked (m Mark k) l → ((y : ℕ) → Mem y l → y < n)
-          → Gives m (ifEq (m Next (root k)) none (mustEq (m Mark k) 0) (do
-            mustGrain n (m Next (root k))
-            mustEq (m Mark k) 1
-            mustLead Prev (m Next (root k)) none)) (tt {0})
-      go [] a b i = subst (λ (t : Script (Unit {0})). Gives m t (tt {0})) (sym (eq-yes (m Next (root k)) none _ _ a)) (gives-eq m 5 (m Mark k) 0 b)
-      go (y ∷ l) a b i =
-          let g : m Next (root k) < n = omega (arith, a .0, i y (inl refl)) in
-          subst (λ (t : Script (Unit {0})). Gives m t (tt {0})) (sym (eq-no (m Next (root k)) none _ _ (omega (arith, o .small))))
-          (gives-bind m (mustGrain n (m Next (root k))) _ (gives-grain m n (m Next (root k)) g)
-          (gives-bind m (mustEq (m Mark k) 1) _ (gives-eq m 5 (m Mark k) 1 b)
-          (gives-lead m Prev (m Next (root k)) none (ap (m Prev) (a .0) ∙ a .1))))
+  head-seen k = head-strung n m (h .lists) k (o .small) (o .strung) (member-inside k)
 
   -- ---- the block that a take gets: the head of list k
 

@@ -10,9 +10,9 @@ use Rattle.class.specs.Class.{listOf, list-small}
 use Rattle.definition.specs.Blocks.{Block, free, used, last, gap, total, _⟨⟩_, room, past}
 use Rattle.definition.specs.Lists.{Lists}
 use Rattle.definition.specs.Calls.{Heap}
-use Rattle.definition.specs.Order.{busy, Inside, Ordered, OrderedL, order-split, total-zip, BlockAt, LeftAt, at-join, at-here}
-use Rattle.definition.specs.Pieces.{used-listed}
-use Rattle.definition.specs.Neighbours.{swallow}
+use Rattle.invariants.specs.Order.{busy, Inside, Ordered, OrderedL, order-split, total-zip, BlockAt, LeftAt, at-join, at-here}
+use Rattle.invariants.specs.Pieces.{used-listed}
+use Rattle.invariants.specs.Neighbours.{swallow}
 use Rattle.script.specs.Memory.{Memory, Size, Before, Next, Prev, Live, none, freeWord, usedWord, lastWord}
 use Rattle.script.specs.Script.{Script, done, _>>=_, unlessEq, mustEq, mustLe, Gives, gives-bind, gives-get, gives-eq, gives-le, gives-done}
 use Rattle.sound.specs.Row.{Row, Left, linkL, row-split}

@@ -8,15 +8,17 @@ use Rattle.choice.specs.Choice.{eq-case}
 use Rattle.definition.specs.Blocks.{Block, free, used, last, gap, size, total, _⟨⟩_}
 use Rattle.definition.specs.Lists.{Lists}
 use Rattle.definition.specs.Calls.{Heap, leave}
-use Rattle.definition.specs.Order.{out, Whole, BlockAt, total-zip, apart, Apart, same, before, behind, at-whole}
-use Rattle.definition.specs.Moves.{Sane, Ok}
-use Rattle.definition.specs.Kept.{Solid}
+use Rattle.invariants.specs.Order.{out, Whole, BlockAt, total-zip, apart, Apart, same, before, behind, at-whole}
+use Rattle.invariants.specs.Moves.{Sane, Ok}
+use Rattle.invariants.specs.Kept.{Solid}
 use Rattle.script.specs.Memory.{Memory, Prev, Table, none, Write}
 use Rattle.sound.specs.Sound.{Sound, Lively, Padded, Given}
 use Rattle.sound.specs.Relists.{NotIn}
 use Rattle.sound.specs.Leave.{LeavesIn}
-use Rattle.sound.specs.Swaps.{Swaps, lively-same, pad-inside, pad-free, padded-change, given-same}
+use Rattle.sound.specs.Swaps.{Swaps, lively-same, pad-inside, pad-free, padded-change, given-same, used-place}
 use Rattle.sound.specs.Finish.{Finished}
+use Rattle.invariants.specs.Gaps.{gap-used}
+use Rattle.sound.specs.Founded.{sound-founded, pad-grain}
 
 -- what leave makes of t grains
 pub leave-total : (f : Lists) (l r : List Block) (t k d : ℕ) → k ≤ t → total (leave f l r t k d .blocks) ≡ total l + t + total r
@@ -24,16 +26,9 @@ unfolding leave
 leave-total f l r t k d h = eq-case (λ (g : Heap). total (g .blocks) ≡ total l + t + total r) k t _ _
     (λ e. omega (arith, total-zip l (used t d ∷ r))) (λ n. omega (arith, total-zip l (used k d ∷ free (t - k) ∷ r)))
 
--- a block ends inside
-pub at-end : (y : ℕ) (b : Block) (x : ℕ) (r : List Block) → BlockAt y b x r → y + size b ≤ x + total r
-at-end y b x (c ∷ r) (inl h) = omega (arith, h .0, ap size (h .1))
-at-end y b x (c ∷ r) (inr h) = omega (arith, at-end y b (x + size c) r h)
-
 -- the word before a payload is no more none than its grain
 pub pad-some : (n c : ℕ) (m : Memory) (h : Heap) → Sound n c m h → (y s e : ℕ) → BlockAt y (used s e) 0 (h .blocks) → e % 2 ≡ 0 → y + e / 2 - 1 ≡ none → ⊥
-pad-some n c m h o y s e b v q =
-    let w : Whole (used s e) = at-whole y (used s e) 0 out (h .blocks) (o .heap .order) b in
-    omega (arith, pad-inside y s e (w .1) v, at-end y (used s e) 0 (h .blocks) b, o .whole, o .small)
+pad-some n c m h o = pad-grain n c m (h .blocks) (h .lists) (sound-founded n c m h o)
 
 module _ (n c : ℕ) (m u : Memory) (h g : Heap) (o : Sound n c m h) (ok : Ok c g) (x : ℕ) (old : Block) (z : ℕ) (new : Block) (w : Swaps (h .blocks) (g .blocks) x old z new)
     (go : old ≡ gap → ⊥) (gn : new ≡ gap → ⊥) (t : total (g .blocks) ≡ total (h .blocks)) where
@@ -42,12 +37,6 @@ module _ (n c : ℕ) (m u : Memory) (h g : Heap) (o : Sound n c m h) (ok : Ok c 
   gaps-stay e = given-same m u (h .blocks) (g .blocks) (o .given) e t
       (λ y b. ⊎-elim (λ (i : (y ≡ x) × (old ≡ gap)). absurd (go (i .1))) (λ (i : BlockAt y gap 0 (g .blocks)). i) (w .forth y gap tt b))
       (λ y b. ⊎-elim (λ (i : (y ≡ z) × (new ≡ gap)). absurd (gn (i .1))) (λ (i : BlockAt y gap 0 (h .blocks)). i) (w .back y gap tt b))
-
-used-gap : {s d : ℕ} → used s d ≡ gap → ⊥
-used-gap e = let z : _≡_ {A = ℕ} 0 1 = cc in omega arith
-
-used-place : {s d t e : ℕ} → used s d ≡ used t e → d ≡ e
-used-place p = cc
 
 -- a payload is placed anew
 pub settle : (n c : ℕ) (m u : Memory) (h g : Heap) → Sound n c m h → Ok c g → (x : ℕ) (old : Block) (z k d : ℕ) → Swaps (h .blocks) (g .blocks) x old z (used k d)
@@ -64,7 +53,7 @@ settle n c m u h g o ok x old z k d w go here fresh t l fin live = record {
       (λ k' d' e v. let q = used-place e in subst (λ (j : ℕ). u Prev (z + j / 2 - 1) ≡ z) q (fin .pad (subst (λ (j : ℕ). j % 2 ≡ 0) (sym q) v)))
       (λ y s e a b v. fin .quiet (y + e / 2 - 1) (pad-some n c m h o y s e a v) (pad-free c (h .blocks) (h .lists) y s e (o .heap) a v) (pad-free c (g .blocks) (g .lists) y s e ok b v)
       (λ i q. differ y s e a b v i q (apart z y 0 (used k d) (used s e) (g .blocks) here b)));
-  given = gaps-stay n c m u h g o ok x old z (used k d) w go used-gap t (fin .table);
+  given = gaps-stay n c m u h g o ok x old z (used k d) w go gap-used t (fin .table);
 }
   where
     differ : (y s e : ℕ) → BlockAt y (used s e) 0 (h .blocks) → BlockAt y (used s e) 0 (g .blocks) → e % 2 ≡ 0 → d % 2 ≡ 0 → y + e / 2 - 1 ≡ z + d / 2 - 1
@@ -93,7 +82,7 @@ settle-same n c m u h g o ok x s k d w a b t lv = record {
       (λ k' d' e v. let q = used-place e in subst (λ (j : ℕ). u Prev (x + j / 2 - 1) ≡ x) q
       (still x s k d a b (subst (λ (j : ℕ). j % 2 ≡ 0) (sym q) v) ∙ o .padded x s d a (subst (λ (j : ℕ). j % 2 ≡ 0) (sym q) v)))
       (λ y i e p q v. still y i i e p q v);
-  given = gaps-stay n c m u h g o ok x (used s d) x (used k d) w used-gap used-gap t (lv .table);
+  given = gaps-stay n c m u h g o ok x (used s d) x (used k d) w gap-used gap-used t (lv .table);
 }
   where
     still : (y i j e : ℕ) → BlockAt y (used i e) 0 (h .blocks) → BlockAt y (used j e) 0 (g .blocks) → e % 2 ≡ 0 → u Prev (y + e / 2 - 1) ≡ m Prev (y + e / 2 - 1)

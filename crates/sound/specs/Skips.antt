@@ -8,10 +8,10 @@ use mathlib.Core.List.{List, [], _∷_}
 use Rattle.class.specs.Class.{listOf}
 use Rattle.definition.specs.Blocks.{Block, free, used, last, gap, total, _⟨⟩_, room, past}
 use Rattle.definition.specs.Lists.{Lists, skip}
-use Rattle.definition.specs.Order.{out, BlockAt, at-here, Apart, same, before, behind, apart, at-whole}
-use Rattle.definition.specs.Members.{Mem, Apiece, mem-drop}
-use Rattle.definition.specs.Moves.{Sane, free-used}
-use Rattle.definition.specs.Neighbours.{swallow, swallow-behind}
+use Rattle.invariants.specs.Order.{out, BlockAt, at-here, Apart, same, before, behind, apart, at-whole}
+use Rattle.invariants.specs.Members.{Mem, Apiece, mem-drop}
+use Rattle.invariants.specs.Moves.{Sane, free-used}
+use Rattle.invariants.specs.Neighbours.{swallow, swallow-behind}
 use Rattle.script.specs.Memory.{Memory, Next, Prev, Write, apply, apply-is}
 use Rattle.sound.specs.Chain.{Real}
 use Rattle.sound.specs.Strung.{Strung}

@@ -5,8 +5,8 @@ use mathlib.Core.List.{List}
 use mathlib.Core.Logic.{_⊎_}
 use Rattle.definition.specs.Blocks.{Block, free, used, last, gap, total}
 use Rattle.definition.specs.Calls.{Heap}
-use Rattle.definition.specs.Order.{BlockAt}
-use Rattle.definition.specs.Moves.{Ok}
+use Rattle.invariants.specs.Order.{BlockAt}
+use Rattle.invariants.specs.Moves.{Ok}
 use Rattle.script.specs.Memory.{Memory, Size, Before, Prev, Live, Table, none}
 use Rattle.sound.specs.Row.{Row}
 use Rattle.sound.specs.Strung.{Strung}

@@ -1,5 +1,5 @@
--- The lists in memory, with their marks; the writes that take a block out of its list, and that put one at the head. Both
--- keep the lists strung.
+-- The lists in memory, with their marks. The writes that take a block out of its list, and those that put one at the head
+-- of a list, keep them strung.
 use Prim.Native.Nat.{ℕ, zero, suc, _+_, _≤_, _<_}
 use native.Mathlib.Omega.{arith}
 use mathlib.Core.Path.{_≡_, refl, ap, sym, _∙_, subst}
@@ -7,9 +7,10 @@ use mathlib.Core.List.{List, [], _∷_, _++_}
 use mathlib.Core.Logic.{_⊎_, inl, inr, ⊎-elim}
 use Rattle.choice.specs.Choice.{ifEq, eq-yes, eq-no, eq-case, upd, upd-same, upd-other, upd-each, upd-pair, same?}
 use Rattle.definition.specs.Lists.{Lists, remove, push, drop}
-use Rattle.definition.specs.Members.{Mem, NoDup, Parts, parts, Apiece}
+use Rattle.invariants.specs.Members.{Mem, NoDup, Parts, parts, Apiece}
 use Rattle.script.specs.Memory.{Memory, Size, Before, Next, Prev, Mark, Live, Table, none, root, Write, _at_≔_, put, apply, Untouched, Spared}
-use Rattle.sound.specs.Chain.{Chain, Links, Real, node, chain-keep, links-unlink, links-push, not-root, not-none, head-is, node-mem, next-mem, prev-mem, prev-is, tail-of, lastOr, last-mem}
+use Rattle.sound.specs.Links.{unlinkWrites, pushWrites, node}
+use Rattle.sound.specs.Chain.{Chain, Links, Real, chain-keep, links-unlink, links-push, not-root, not-none, head-is, node-mem, next-mem, prev-mem, prev-is, tail-of, lastOr, last-mem}
 
 -- a list's mark
 abbrev pub Marked : ℕ → List ℕ → Type 0
@@ -20,19 +21,7 @@ pub record Strung (m : Memory) (f : Lists) : Type 0 where
   pub links : Links (m Next) (m Prev) f
   pub marks : (k : ℕ) → Marked (m Mark k) (f k)
 
--- ---- the writes
-
--- a block of list k, whose neighbours in the list are x behind it and p before it, is taken out
-abbrev pub unlinkWrites : ℕ → ℕ → ℕ → List Write
-unlinkWrites k x p = (Next at node k p ≔ x) ∷ ifEq x none (ifEq p none ((Mark at k ≔ 0) ∷ []) []) ((Prev at x ≔ p) ∷ [])
-
--- y is put at the head of list k, before h
-abbrev pub pushWrites : ℕ → ℕ → ℕ → List Write
-pushWrites k y h = ifEq h none
-    ((Mark at k ≔ 1) ∷ (Prev at y ≔ none) ∷ (Next at y ≔ h) ∷ (Next at root k ≔ y) ∷ [])
-    ((Prev at h ≔ y) ∷ (Prev at y ≔ none) ∷ (Next at y ≔ h) ∷ (Next at root k ≔ y) ∷ [])
-
--- ---- what they leave alone
+-- ---- what those writes leave alone
 
 module _ (g : ℕ) (a : Next ≡ g → ⊥) (b : Prev ≡ g → ⊥) (c : Mark ≡ g → ⊥) where
   pub unlink-untouched : (k x p : ℕ) → Untouched g (unlinkWrites k x p)

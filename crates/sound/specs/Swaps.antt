@@ -8,9 +8,9 @@ use mathlib.Core.Logic.{_⊎_, inl, inr, ⊎-elim}
 use Rattle.choice.specs.Choice.{upd, upd-same, upd-other, same?}
 use Rattle.definition.specs.Blocks.{Block, free, used, last, gap, size, total, _⟨⟩_}
 use Rattle.definition.specs.Lists.{Lists}
-use Rattle.definition.specs.Order.{Side, out, Ordered, Whole, Inside, some, BlockAt, Apart, same, before, behind, apart, at-whole}
-use Rattle.definition.specs.Moves.{Sane}
-use Rattle.definition.specs.Kept.{Solid}
+use Rattle.invariants.specs.Order.{Side, out, Ordered, Whole, Inside, some, BlockAt, Apart, same, before, behind, apart, at-whole}
+use Rattle.invariants.specs.Moves.{Sane}
+use Rattle.invariants.specs.Kept.{Solid}
 use Rattle.script.specs.Memory.{Memory, Prev, Live, Table, none}
 use Rattle.sound.specs.Sound.{Lively, Padded, InTable, Given}
 use Rattle.sound.specs.Relists.{NotIn}
@@ -35,7 +35,8 @@ owner-unique A x s d y t e o a b q = go (apart x y 0 (used s d) (used t e) A a b
     go (before h) = absurd (omega (arith, u .1 .within, v .1 .some))
     go (behind h) = absurd (omega (arith, v .1 .within, u .1 .some))
 
-used-place : {s d t e : ℕ} → used s d ≡ used t e → d ≡ e
+-- the place in a used block
+pub used-place : {s d t e : ℕ} → used s d ≡ used t e → d ≡ e
 used-place p = cc
 
 -- ---- live bits

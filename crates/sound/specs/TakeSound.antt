@@ -10,16 +10,16 @@ use Rattle.class.specs.Class.{listOf, startOf, list-small}
 use Rattle.definition.specs.Blocks.{Block, free, used, last, gap, size, total, _⟨⟩_}
 use Rattle.definition.specs.Lists.{Lists, drop, push, Found, nothing, found, search}
 use Rattle.definition.specs.Calls.{Heap, noList, Answer, refused, granted, leave, wanted, place, keeps, take, takeAt}
-use Rattle.definition.specs.Order.{Ordered, OrderedL, order-split, BlockAt, at-here, at-low, total-zip, apart, Apart, same, before, behind, at-whole}
-use Rattle.definition.specs.Members.{Mem, Apiece, mem-drop}
-use Rattle.definition.specs.Moves.{Sane, Ok, occupy}
-use Rattle.definition.specs.Placing.{Align, align-pos, place-some, keeps-some, keeps-wanted}
-use Rattle.definition.specs.Kept.{Solid, solid-free}
-use Rattle.definition.specs.Promises.{Finds, finds, Took, take-found, sought, search-empty, leave-here, leave-keeps, leave-only}
+use Rattle.invariants.specs.Order.{Ordered, OrderedL, order-split, BlockAt, at-here, at-low, total-zip, apart, Apart, same, before, behind, at-whole}
+use Rattle.invariants.specs.Members.{Mem, Apiece, mem-drop}
+use Rattle.invariants.specs.Moves.{Sane, Ok, occupy}
+use Rattle.invariants.specs.Placing.{Align, align-pos, place-some, keeps-some, keeps-wanted}
+use Rattle.invariants.specs.Kept.{Solid, solid-free}
+use Rattle.invariants.specs.Promises.{Finds, finds, Took, take-found, sought, search-empty, leave-here, leave-keeps, leave-only}
 use Rattle.script.specs.Memory.{Memory, Size, Before, Next, Prev, Mark, Live, Table, none, root, Write, _at_≔_, apply}
 use Rattle.script.specs.Script.{Script, run, no, done, Gives, gives-bind, gives-get, gives-done, gives-eq, gives-le, goes, halts, halts-le, searches, unlessLe, mustEq, get}
 use Rattle.sound.specs.Chain.{Real}
-use Rattle.sound.specs.Strung.{Strung, Marked, unlinkWrites}
+use Rattle.sound.specs.Strung.{Strung, Marked}
 use Rattle.sound.specs.Sound.{Sound}
 use Rattle.sound.specs.Checks.{mustGrain, mustFree, mustLead, mustBack, mustBusy}
 use Rattle.sound.specs.Plans.{Plan, takeScript, leaveScript, padWrites}
@@ -32,6 +32,8 @@ use Rattle.sound.specs.Finish.{Finished, finish-memory}
 use Rattle.sound.specs.Settle.{settle, leave-total}
 use Rattle.sound.specs.Seen.{FreeFacts, free-facts, member-inside, lists-real, head-seen, free-seen, head-leads, head-prev, head-back, gives-lead, gives-grain}
 use Rattle.sound.specs.SeenBeside.{Here}
+use Rattle.sound.specs.Links.{unlinkWrites}
+use Rattle.invariants.specs.Gaps.{gap-free}
 
 -- ---- the search of the map finds the list that the definition finds
 
@@ -51,9 +53,6 @@ module _ (m : Memory) (f : Lists) (s : Strung m f) (i k : ℕ) where
       let d = finds f i k j y e in
       first-is (m Mark) i k j (d .low) (omega (arith, d .high))
       (λ u a b. unmarked (m Mark u) (f u) (d .first u a b) (s .marks u)) (λ _. marked (m Mark j) y (f j) (d .rest) (d .list) (s .marks j))
-
-free-gap : {s : ℕ} → free s ≡ gap → ⊥
-free-gap e = let z : _≡_ {A = ℕ} 0 1 = cc in omega arith
 
 -- ---- the block at the head of the list
 
@@ -160,7 +159,7 @@ module _ (n c p a : ℕ) (m : Memory) (f : Lists) (l r : List Block) (s : ℕ) (
       (i .0) (i .1 .2) (i .1 .1) k d keep-some keep-fits (omega (arith, o .small)) new in
       let fin = finish-memory c m f (leaveWrites m w x s k) g x k d ((Live at 2 * x + d ≔ 1) ∷ []) lv ok here (refl, tt) in
       let tt' : total (g .blocks) ≡ total (l ⟨⟩ free s ∷ r) = leave-total (drop (listOf s) x f) l r s k d keep-fits ∙ omega (arith, total-zip l (free s ∷ r)) in
-      settle n c m _ (Here f l (free s) r) g o ok x (free s) x k d swaps free-gap here not-yet tt' _ fin
+      settle n c m _ (Here f l (free s) r) g o ok x (free s) x k d swaps gap-free here not-yet tt' _ fin
       (lively-add m _ (l ⟨⟩ free s ∷ r) (g .blocks) (o .lively) x (free s) x k d (λ v. v) swaps here (fin .live))
 
   pub take-grants : Grants n c m (takeScript n c p a) (2 * total l + place a (total l)) (leave (drop (listOf s) (total l) f) l r s (keeps (place a (total l)) p) (place a (total l)))

@@ -11,12 +11,14 @@ use Rattle.bits.proofs.first_marked.Tie as tie
 
 -- something is left of k's word, and the zeros below it lead to the answer
 some :
-    (c : tie.Else2) → let s = c .before .before .before .before in let z = trailingZeros 64 (c .before .fetch .result / 2 ^ (s .args .k % 64)) in
+    (c : tie.Else2) → let s = c .before .before .before .before in
+    let z = trailingZeros 64 (c .before .fetch .result / 2 ^ (s .args .k % 64)) in
     (z < 64) × (s .args .k + z ≡ firstMarked (s .args .t .now) (s .args .k))
 some c =
     let f = c .before in
     let s = f .before .before .before in
-    left-some (s .args .t .now) (s .args .k) (f .fetch .result) (f .before .if1 .left) (f .fetch .ensures) (f .fetch .ok) (c .if2 .left)
+    left-some (s .args .t .now) (s .args .k) (f .fetch .result)
+    (f .before .if1 .left) (f .fetch .ensures) (f .fetch .ok) (c .if2 .left)
 
 returns : tie.Need-returns
 returns c = let s = c .before .before in at-end (s .args .t .now) (s .args .k) (c .if1 .taken) (s .pre .1)
@@ -34,7 +36,8 @@ returns-2 : tie.Need-returns-2
 returns-2 c =
     let f = c .before .before in
     let s = f .before .before .before in
-    left-none (s .args .t .now) (s .args .k) (f .fetch .result) (c .from-behind .result) (f .before .if1 .left) (f .fetch .ensures) (c .before .if2 .taken) (c .from-behind .ensures)
+    left-none (s .args .t .now) (s .args .k) (f .fetch .result) (c .from-behind .result)
+    (f .before .if1 .left) (f .fetch .ensures) (c .before .if2 .taken) (c .from-behind .ensures)
 
 cast-result : tie.Need-cast-result
 cast-result c = omega (arith, some c)

@@ -8,11 +8,11 @@ use mathlib.Core.List.{List, [], _∷_}
 use mathlib.Core.Logic.{_⊎_, inl, inr, ⊎-elim}
 use Rattle.choice.specs.Choice.{ifEq, eq-case}
 use Rattle.class.specs.Class.{listOf}
 use Rattle.definition.specs.Blocks.{Block, free, used, last, gap, size, total, _⟨⟩_, room, past}
 use Rattle.definition.specs.Lists.{Lists, push, drop, skip}
 use Rattle.definition.specs.Calls.{Heap, leave, join}
-use Rattle.definition.specs.Order.{Side, out, busy, idle, side, sideL, Fits, Inside, first-half, Whole, Ordered, OrderedL, order-split}
-use Rattle.definition.specs.Moves.{Sane, Ok, occupy, vacate, fuse, part, replace}
+use Rattle.invariants.specs.Order.{Side, out, busy, idle, side, sideL, Fits, Inside, first-half, Whole, Ordered, OrderedL, order-split}
+use Rattle.invariants.specs.Moves.{Sane, Ok, occupy, vacate, fuse, part, replace}
 
 -- ---- what stands beside
 

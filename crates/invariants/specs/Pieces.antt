@@ -7,8 +7,8 @@ use native.Mathlib.Nat.{add-assoc}
 use mathlib.Core.Path.{_≡_, refl, ap, sym, _∙_, subst}
 use mathlib.Core.List.{List, [], _∷_}
 use mathlib.Core.Logic.{_⊎_, inl, inr, ⊎-elim}
 use Rattle.definition.specs.Blocks.{Block, free, used, last, gap, size, total, _⟨⟩_}
-use Rattle.definition.specs.Order.{Side, out, busy, idle, side, sideL, Ordered, Whole}
+use Rattle.invariants.specs.Order.{Side, out, busy, idle, side, sideL, Ordered, Whole}
 
 pub data Piece : Type 0 where
   piece : ℕ → Piece

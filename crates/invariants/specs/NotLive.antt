@@ -4,9 +4,9 @@ use Prim.Native.Nat.{ℕ, _+_, _*_}
 use mathlib.Core.Path.{_≡_, refl, sym, subst}
 use mathlib.Core.List.{List, [], _∷_}
 use Rattle.choice.specs.Choice.{eq-case}
 use Rattle.definition.specs.Blocks.{Block, free, used, last, gap, total, _⟨⟩_, Place, find, payload}
 use Rattle.definition.specs.Calls.{Heap, notLive, Answer, refused, giveBackAt, giveBack, resizeAt, resize}
-use Rattle.definition.specs.Order.{BlockAt, at-here}
+use Rattle.invariants.specs.Order.{BlockAt, at-here}
 
 -- what holds of the list's end, and of each block that has the key, holds of what is found
 pub find-case : (P : Place → Type 0) (key : ℕ → Block → ℕ) (v : ℕ) (l r : List Block) → ((a : List Block) → P (record { before = a; behind = [] }))

@@ -7,9 +7,9 @@ use mathlib.Core.Path.{_≡_, refl, ap, sym, _∙_, subst}
 use mathlib.Core.List.{List, [], _∷_}
 use mathlib.Core.Logic.{_⊎_, inl, inr, ⊎-elim}
 use Rattle.choice.specs.Choice.{ifEq, eq-case, le?}
 use Rattle.definition.specs.Blocks.{Block, free, used, last, gap, size, total, _⟨⟩_, Place, find, offset, gaps, bare, without}
-use Rattle.definition.specs.Order.{Side, out, sideL, Whole, some, Ordered, OrderedL, order-split, total-zip, BlockAt, LeftAt, at-split, at-join, at-low, left-lt, Stands, stands-at, offset-at}
-use Rattle.definition.specs.Moves.{free-gap}
+use Rattle.invariants.specs.Order.{Side, out, sideL, Whole, some, Ordered, OrderedL, order-split, total-zip, BlockAt, LeftAt, at-split, at-join, at-low, left-lt, Stands, stands-at, offset-at}
+use Rattle.invariants.specs.Moves.{free-gap}
 
 -- ---- gaps, in front of a list and behind the blocks before
 

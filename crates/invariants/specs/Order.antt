@@ -133,6 +133,11 @@ pub left-high : (y : ℕ) (c : Block) (l : List Block) → LeftAt y c l → y + 
 left-high y c (b ∷ l) (inl h) = omega (arith, h .0, ap size (h .1))
 left-high y c (b ∷ l) (inr h) = omega (arith, left-high y c l h)
 
+-- and ends inside
+pub at-end : (y : ℕ) (c : Block) (x : ℕ) (r : List Block) → BlockAt y c x r → y + size c ≤ x + total r
+at-end y c x (b ∷ r) (inl h) = omega (arith, h .0, ap size (h .1))
+at-end y c x (b ∷ r) (inr h) = omega (arith, at-end y c (x + size b) r h)
+
 pub at-whole : (y : ℕ) (c : Block) (x : ℕ) (a : Side) (r : List Block) → Ordered a r → BlockAt y c x r → Whole c
 at-whole y c x a (b ∷ r) w (inl h) = subst Whole (h .1) (w .1)
 at-whole y c x a (b ∷ r) w (inr h) = at-whole y c (x + size b) (side b) r (w .2) h
@@ -170,6 +175,15 @@ apart x y p b c (d ∷ r) (inl h) (inl k) = same (h .0 ∙ sym (k .0)) (sym (h .
 apart x y p b c (d ∷ r) (inl h) (inr k) = before (omega (arith, h .0, ap size (h .1), at-low y c (p + size d) r k))
 apart x y p b c (d ∷ r) (inr h) (inl k) = behind (omega (arith, k .0, ap size (k .1), at-low x b (p + size d) r h))
 apart x y p b c (d ∷ r) (inr h) (inr k) = apart x y (p + size d) b c r h k
+
+-- one block at one place
+pub one-block : (y : ℕ) (b d : Block) (xs : List Block) → Ordered out xs → BlockAt y b 0 xs → BlockAt y d 0 xs → b ≡ d
+one-block y b d xs o h k = go (apart y y 0 b d xs h k)
+  where
+    go : Apart y b y d → b ≡ d
+    go (same e q) = q
+    go (before e) = absurd (omega (arith, some b (at-whole y b 0 out xs o h)))
+    go (behind e) = absurd (omega (arith, some d (at-whole y d 0 out xs o k)))
 
 -- ---- going there
 

@@ -7,16 +7,16 @@ use mathlib.Core.List.{List, [], _∷_}
 use mathlib.Core.Logic.{_⊎_, inl, inr, ⊎-elim}
 use Rattle.choice.specs.Choice.{eq-case, same?}
 use Rattle.class.specs.Class.{listOf, startOf, list-small, start-fits, good-fit as looked-at}
 use Rattle.definition.specs.Blocks.{Block, free, used, total, _⟨⟩_, Place, find, offset, room, past}
 use Rattle.definition.specs.Lists.{Lists, drop, Found, nothing, found, headOr, search}
 use Rattle.definition.specs.Calls.{Heap, noList, refused, granted, wanted, place, keeps, leave, takeAt, take}
-use Rattle.definition.specs.Order.{first-half, order-split, BlockAt, at-here, stands-at, offset-at, Apart, same, before, behind, apart}
-use Rattle.definition.specs.Members.{Mem}
-use Rattle.definition.specs.Pieces.{free-listed}
-use Rattle.definition.specs.Moves.{Sane, Ok, occupy}
-use Rattle.definition.specs.Neighbours.{leave-ok}
-use Rattle.definition.specs.Placing.{Align, align-pos, place-aligned, place-some, place-inside, keeps-holds, keeps-some, keeps-wanted, wanted-some}
-use Rattle.definition.specs.Kept.{Solid, kept-take, kept-take-back, kept-take-split, kept-take-split-back}
+use Rattle.invariants.specs.Order.{first-half, order-split, BlockAt, at-here, stands-at, offset-at, Apart, same, before, behind, apart}
+use Rattle.invariants.specs.Members.{Mem}
+use Rattle.invariants.specs.Pieces.{free-listed}
+use Rattle.invariants.specs.Moves.{Sane, Ok, occupy}
+use Rattle.invariants.specs.Neighbours.{leave-ok}
+use Rattle.invariants.specs.Placing.{Align, align-pos, place-aligned, place-some, place-inside, keeps-holds, keeps-some, keeps-wanted, wanted-some}
+use Rattle.invariants.specs.Kept.{Solid, kept-take, kept-take-back, kept-take-split, kept-take-split-back}
 
 -- ---- the search
 

@@ -5,8 +5,8 @@ use native.Mathlib.Nat.{div-mul-le-self, lt-div-mul-add, mul-mod-left, mul-assoc
 use native.Mathlib.Omega.{arith}
 use mathlib.Core.Path.{_≡_, ap, sym, _∙_}
 use mathlib.Core.Logic.{_⊎_, inl, inr}
 use Rattle.definition.specs.Calls.{upTo, wanted, place, keeps}
-use Rattle.definition.specs.Order.{Inside}
+use Rattle.invariants.specs.Order.{Inside}
 
 -- an alignment, in half grains: one, or even
 abbrev pub Align : ℕ → Type 0

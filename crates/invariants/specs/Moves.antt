@@ -7,12 +7,12 @@ use mathlib.Core.List.{List, [], _∷_}
 use mathlib.Core.Logic.{_⊎_, inl, inr, ⊎-elim}
 use Rattle.choice.specs.Choice.{upd, upd-same, upd-other}
 use Rattle.class.specs.Class.{listOf}
 use Rattle.definition.specs.Blocks.{Block, free, used, last, gap, size, total, _⟨⟩_, gaps}
 use Rattle.definition.specs.Lists.{Lists, push, drop, remove}
 use Rattle.definition.specs.Calls.{Heap}
-use Rattle.definition.specs.Order.{Side, out, busy, idle, side, sideL, Fits, Inside, Whole, Ordered, OrderedL, order-split, order-join, BlockAt, LeftAt, at-split, at-join, at-here, at-low, left-lt, used-fits, some}
-use Rattle.definition.specs.Members.{Mem, NoDup, Apiece, mem-drop, mem-dropped, dropped, apiece-drop, mem-push, mem-pushed, apiece-push}
-use Rattle.definition.specs.Pieces.{Piece, pieces, pieces-behind, Listed}
+use Rattle.invariants.specs.Order.{Side, out, busy, idle, side, sideL, Fits, Inside, Whole, Ordered, OrderedL, order-split, order-join, BlockAt, LeftAt, at-split, at-join, at-here, at-low, left-lt, used-fits, some}
+use Rattle.invariants.specs.Members.{Mem, NoDup, Apiece, mem-drop, mem-dropped, dropped, apiece-drop, mem-push, mem-pushed, apiece-push}
+use Rattle.invariants.specs.Pieces.{Piece, pieces, pieces-behind, Listed}
 
 -- each list holds exactly the free blocks of its class, each once
 pub record Exact (xs : List Block) (f : Lists) : Type 0 where

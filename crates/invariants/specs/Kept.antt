@@ -7,9 +7,9 @@ use native.Mathlib.Nat.{add-zero}
 use mathlib.Core.Path.{_≡_, sym, subst}
 use mathlib.Core.List.{List, [], _∷_}
 use mathlib.Core.Logic.{_⊎_, inl, inr}
 use Rattle.definition.specs.Blocks.{Block, free, used, last, gap, size, total, _⟨⟩_, room, past}
-use Rattle.definition.specs.Order.{BlockAt, LeftAt, at-split, at-join}
-use Rattle.definition.specs.Neighbours.{total-past}
+use Rattle.invariants.specs.Order.{BlockAt, LeftAt, at-split, at-join}
+use Rattle.invariants.specs.Neighbours.{total-past}
 
 -- what is not free
 abbrev pub Solid : Block → Type 0
