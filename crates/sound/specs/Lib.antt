@@ -46,3 +46,15 @@ pub mod ResizeInPlace
 pub mod ResizeDown
 pub mod ResizeSound
 pub mod RegionSound
+pub mod Calls
+pub mod LiveResize
+pub mod TableWrites
+pub mod Runs
+pub mod PayloadWrites
+pub mod PayloadTake
+pub mod PayloadReturn
+pub mod ResizeSteps
+pub mod PayloadResize
+pub mod PayloadMoved
+pub mod PayloadRegions
+pub mod Payloads
