@@ -14,7 +14,6 @@ use Rattle.definition.specs.Neighbours.{swallow-behind, total-past}
 use Rattle.definition.specs.Kept.{kept-join-back}
 use Rattle.script.specs.Memory.{Memory, Next, Live, none, root, Write, latest}
 use Rattle.script.specs.Script.{Script, ok, run, Gives, goes, halts, inv-bind, inv-done, _>>=_}
-use Rattle.sound.specs.Strung.{pushWrites}
 use Rattle.sound.specs.Sound.{Sound}
 use Rattle.sound.specs.Checks.{mustList, seeHead, Beside, nobody, somebody, Owner, seeOwner, seeBehind, seeBefore}
 use Rattle.sound.specs.Plans.{Plan, leaves, afterwards, bothLeave, giveBackScript, joinScript, freeWrites, roomOf}
@@ -24,6 +23,7 @@ use Rattle.sound.specs.SeenBeside.{Here, beside, room-seen, owner-seen, 
 use Rattle.sound.specs.Seen.{lists-real, head-seen, not-owner}
 use Rattle.sound.specs.PayloadWrites.{Spares, spares-append, spares-from, push-off, free-off, Unlisted, used-unlisted, Aside, aside-off, aside-edge, after-off, leaves-off}
 use Rattle.sound.specs.PayloadTake.{used-small, free-aside}
+use Rattle.sound.specs.Links.{pushWrites}
 
 -- what joinScript plans, where the heads are seen
 join-planned : (n c : ℕ) (m : Memory) (q z t : ℕ) (w : List Write) (p : Plan) → ((j : ℕ) → Gives m (seeHead n j) (m Next (root j))) → Gives m (joinScript n c q z t w) p

@@ -17,7 +17,6 @@ use Rattle.definition.specs.Moves.{free-used}
 use Rattle.script.specs.Memory.{Memory, Before, Next, Prev, Mark, Live, none, root, Write, _at_≔_}
 use Rattle.script.specs.Script.{ok, run, done, Gives, goes, searches, inv-bind, inv-get, inv-done, inv-eq, inv-le, unlessLe, mustEq}
 use Rattle.sound.specs.Chain.{head-is}
-use Rattle.sound.specs.Strung.{unlinkWrites}
 use Rattle.sound.specs.Sound.{Sound}
 use Rattle.sound.specs.Checks.{mustGrain, mustFree, mustLead, mustBack, mustBusy, mustList, seeHead}
 use Rattle.sound.specs.Plans.{Plan, leaveScript, wholeWrites, padWrites, takeScript}
@@ -26,6 +25,7 @@ use Rattle.sound.specs.Leave.{restWrites, leaveWrites}
 use Rattle.sound.specs.Seen.{lists-real, head-seen, free-seen}
 use Rattle.sound.specs.Settle.{at-end}
 use Rattle.sound.specs.PayloadWrites.{Spares, spares-from, used-unlisted, drop-off, Aside, placed-off}
+use Rattle.sound.specs.Links.{unlinkWrites}
 
 -- what leaveScript plans, where the heads are seen
 pub leave-planned : (n c : ℕ) (m : Memory) (w v : List Write) (x t k : ℕ) → ((j : ℕ) → Gives m (seeHead n j) (m Next (root j))) → Gives m (leaveScript n c w x t k) v → v ≡ leaveWrites m w x t k
