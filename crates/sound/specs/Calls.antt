@@ -7,10 +7,10 @@ use mathlib.Core.List.{List, []}
 use Rattle.class.specs.Class.{startOf}
 use Rattle.definition.specs.Blocks.{Block, used}
 use Rattle.definition.specs.Calls.{Heap, noList, notLive, noRegion, Answer, refused, granted, wanted, join, take, giveBack, resize, insert, append}
-use Rattle.definition.specs.Order.{BlockAt, stands-at}
-use Rattle.definition.specs.Placing.{Align}
-use Rattle.definition.specs.Promises.{refused-exactly}
-use Rattle.definition.specs.NotLive.{NotLive, not-live-back}
+use Rattle.invariants.specs.Order.{BlockAt, stands-at}
+use Rattle.invariants.specs.Placing.{Align}
+use Rattle.invariants.specs.Promises.{refused-exactly}
+use Rattle.invariants.specs.NotLive.{NotLive, not-live-back}
 use Rattle.script.specs.Memory.{Memory, Table}
 use Rattle.script.specs.Script.{Script, no, run}
 use Rattle.script.specs.Locality.{Reads, DiffersIn, Contained, contained}

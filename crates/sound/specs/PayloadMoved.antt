@@ -12,12 +12,11 @@ use Rattle.class.specs.Class.{listOf}
 use Rattle.definition.specs.Blocks.{Block, used, total, _⟨⟩_, room, past}
 use Rattle.definition.specs.Lists.{Lists, skip}
 use Rattle.definition.specs.Calls.{Heap, place, keeps}
-use Rattle.definition.specs.Order.{out, BlockAt, at-here, stands-at, at-whole, total-zip}
-use Rattle.definition.specs.Neighbours.{total-past}
-use Rattle.definition.specs.Placing.{Align, align-pos, place-some, keeps-holds}
+use Rattle.invariants.specs.Order.{out, BlockAt, at-here, stands-at, at-whole, total-zip}
+use Rattle.invariants.specs.Neighbours.{total-past}
+use Rattle.invariants.specs.Placing.{Align, align-pos, place-some, keeps-holds}
 use Rattle.script.specs.Memory.{Memory, Next, Live, none, root, Write, _at_≔_, latest, apply}
 use Rattle.script.specs.Script.{ok, run, Gives}
-use Rattle.sound.specs.Strung.{pushWrites}
 use Rattle.sound.specs.Sound.{Sound}
 use Rattle.sound.specs.Plans.{Plan, bothLeave, padWrites, wholeWrites, splitWrites, elsewhereScript, resizeScript}
 use Rattle.sound.specs.Leave.{restWrites, leaveWrites}
@@ -27,6 +26,7 @@ use Rattle.sound.specs.PayloadWrites.{Spares, spares-append, spares-from
 use Rattle.sound.specs.PayloadTake.{used-small, take-spares}
 use Rattle.sound.specs.PayloadReturn.{both-off, back-spares}
 use Rattle.sound.specs.ResizeSteps.{between, both, Step, stays, stretches, sinks, moves, step}
+use Rattle.sound.specs.Links.{pushWrites}
 
 -- the payload of the block of s grains at y moves from its place d to one with room for p half grains, which is enough
 pub record Carried (y s d p : ℕ) (t : Plan) : Type 0 where

@@ -10,22 +10,21 @@ use Rattle.bits.specs.First.{firstSet, first-from}
 use Rattle.class.specs.Class.{listOf, startOf, start-fits}
 use Rattle.definition.specs.Blocks.{Block, free, used}
 use Rattle.definition.specs.Calls.{Heap, wanted, place, keeps}
-use Rattle.definition.specs.Order.{out, BlockAt, Apart, same, before, behind, apart, at-whole}
-use Rattle.definition.specs.Members.{Mem, mem-drop}
-use Rattle.definition.specs.Placing.{Align, align-pos, keeps-wanted, wanted-some, place-some, keeps-holds}
-use Rattle.definition.specs.Moves.{free-used}
+use Rattle.invariants.specs.Order.{out, BlockAt, Apart, same, before, behind, apart, at-whole, at-end}
+use Rattle.invariants.specs.Members.{Mem, mem-drop}
+use Rattle.invariants.specs.Placing.{Align, align-pos, keeps-wanted, wanted-some, place-some, keeps-holds}
+use Rattle.invariants.specs.Moves.{free-used}
 use Rattle.script.specs.Memory.{Memory, Before, Next, Prev, Mark, Live, none, root, Write, _at_≔_}
 use Rattle.script.specs.Script.{ok, run, done, Gives, goes, searches, inv-bind, inv-get, inv-done, inv-eq, inv-le, unlessLe, mustEq}
 use Rattle.sound.specs.Chain.{head-is}
-use Rattle.sound.specs.Strung.{unlinkWrites}
 use Rattle.sound.specs.Sound.{Sound}
 use Rattle.sound.specs.Checks.{mustGrain, mustFree, mustLead, mustBack, mustBusy, mustList, seeHead}
 use Rattle.sound.specs.Plans.{Plan, leaveScript, wholeWrites, padWrites, takeScript}
 use Rattle.sound.specs.Relists.{relists-drop}
 use Rattle.sound.specs.Leave.{restWrites, leaveWrites}
 use Rattle.sound.specs.Seen.{lists-real, head-seen, free-seen}
-use Rattle.sound.specs.Settle.{at-end}
 use Rattle.sound.specs.PayloadWrites.{Spares, spares-from, used-unlisted, drop-off, Aside, placed-off}
+use Rattle.sound.specs.Links.{unlinkWrites}
 
 -- what leaveScript plans, where the heads are seen
 pub leave-planned : (n c : ℕ) (m : Memory) (w v : List Write) (x t k : ℕ) → ((j : ℕ) → Gives m (seeHead n j) (m Next (root j))) → Gives m (leaveScript n c w x t k) v → v ≡ leaveWrites m w x t k

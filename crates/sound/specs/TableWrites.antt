@@ -9,10 +9,11 @@ use Rattle.class.specs.Class.{listOf}
 use Rattle.definition.specs.Calls.{place, keeps}
 use Rattle.script.specs.Memory.{Memory, Prev, Table, none, Write, apply, apply-append, Untouched, untouched-append}
 use Rattle.script.specs.Script.{done, stop, Gives, unlessLe, mustEq, mustLe, over, Ends, ends-bind, ends-any, ends-over, ends-gives, inv-get}
-use Rattle.sound.specs.Strung.{unlinkWrites, pushWrites, unlink-untouched, push-untouched}
+use Rattle.sound.specs.Strung.{unlink-untouched, push-untouched}
 use Rattle.sound.specs.Checks.{wordOf, asFree, asBusy, mustGrain, mustBack, mustList, seeHead, seeBehind, seeBefore, seeOwner, Beside, nobody, somebody}
 use Rattle.sound.specs.Plans.{Plan, leaveScript, padWrites, wholeWrites, splitWrites, freeWrites, leaves, afterwards, bothLeave, roomOf, takeScript, joinScript, giveBackScript, elsewhereScript, downScript, moveScript, stretchScript, growScript, resizeScript}
 use Rattle.sound.specs.RegionPlan.{seeRegions, layScript, regionScript}
+use Rattle.sound.specs.Links.{unlinkWrites, pushWrites}
 
 -- ---- take, return and resize
 
