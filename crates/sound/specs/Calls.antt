@@ -7,10 +7,10 @@ use mathlib.Core.List.{List, []}
 use Rattle.class.specs.Class.{startOf}
 use Rattle.definition.specs.Blocks.{Block, used}
 use Rattle.definition.specs.Calls.{Heap, noList, notLive, noRegion, Answer, refused, granted, wanted, join, take, giveBack, resize, insert, append}
-use Rattle.definition.specs.Order.{BlockAt, stands-at}
-use Rattle.definition.specs.Placing.{Align}
-use Rattle.definition.specs.Promises.{refused-exactly}
-use Rattle.definition.specs.NotLive.{NotLive, not-live-back}
+use Rattle.invariants.specs.Order.{BlockAt, stands-at}
+use Rattle.invariants.specs.Placing.{Align}
+use Rattle.invariants.specs.Promises.{refused-exactly}
+use Rattle.invariants.specs.NotLive.{NotLive, not-live-back}
 use Rattle.script.specs.Memory.{Memory, Table}
 use Rattle.script.specs.Script.{Script, no, run}
 use Rattle.script.specs.Locality.{Reads, DiffersIn, Contained, contained}
@@ -123,10 +123,9 @@ module _ (n c : ℕ) (m : Memory) (h : Heap) (o : Sound n c m h) where
 -- ---- T10: damage stays where it is
 
 -- For a crane engineer: some words of the arena or of the tables, D, were overwritten, by whatever. A call whose checks
--- on the undamaged memory would read none of them answers just as it would have, and what it writes is the same: the
--- damaged memory afterwards differs from the undamaged one in D and nowhere else. So what one module broke is not
--- carried into what another module holds. (A call that does read such a word is refused with 5, or sees words that
--- hang together.)
+-- on the undamaged memory would read none of them answers just as it would have, and writes the same: the damaged memory
+-- afterwards differs from the undamaged one in D at most. So what one module broke is not carried into what another
+-- holds. Of a call that does read such a word this says nothing.
 pub damage-stays : (n c most : ℕ) (k : Call) (D : ℕ → ℕ → Type 0) (m d : Memory) → DiffersIn D m d
     → ((g y : ℕ) → Reads m (scriptOf n c most k) g y → D g y → ⊥) → Contained D m d (scriptOf n c most k)
 damage-stays n c most k D m d = contained D m d (scriptOf n c most k)

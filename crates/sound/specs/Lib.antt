@@ -46,10 +46,12 @@ pub mod ResizeInPlace
 pub mod ResizeDown
 pub mod ResizeSound
 pub mod RegionSound
+-- all calls at once, and lists of calls
 pub mod Calls
 pub mod LiveResize
 pub mod TableWrites
 pub mod Runs
+-- payloads: no call writes into one that it is not about
 pub mod PayloadWrites
 pub mod PayloadTake
 pub mod PayloadReturn

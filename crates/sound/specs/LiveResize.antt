@@ -8,11 +8,11 @@ use Rattle.choice.specs.Choice.{eq-case, le-case}
 use Rattle.definition.specs.Blocks.{Block, used, total, _⟨⟩_, room, past, Place, find, payload}
 use Rattle.definition.specs.Lists.{Found, nothing, found}
 use Rattle.definition.specs.Calls.{Heap, Refusal, noList, Answer, refused, granted, join, place, keeps, takeAt, take, giveBackAt, giveBack, answering, backAfter, elsewhere, down, resizeAt, resize}
-use Rattle.definition.specs.Order.{Ordered, out, order-split, BlockAt, stands-at, payload-at}
-use Rattle.definition.specs.Moves.{Ok}
-use Rattle.definition.specs.Placing.{Align}
-use Rattle.definition.specs.Promises.{sought, take-granted}
-use Rattle.definition.specs.NotLive.{NotLive, not-live-resize}
+use Rattle.invariants.specs.Order.{Ordered, out, order-split, BlockAt, stands-at, payload-at}
+use Rattle.invariants.specs.Moves.{Ok}
+use Rattle.invariants.specs.Placing.{Align}
+use Rattle.invariants.specs.Promises.{sought, take-granted}
+use Rattle.invariants.specs.NotLive.{NotLive, not-live-resize}
 use Rattle.script.specs.Memory.{Memory}
 use Rattle.script.specs.Script.{Script, no, run}
 use Rattle.sound.specs.Sound.{Sound}

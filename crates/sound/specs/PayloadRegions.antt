@@ -9,10 +9,10 @@ use Rattle.class.specs.Class.{listOf}
 use Rattle.definition.specs.Blocks.{Block, free, used, last, gap, total, _⟨⟩_, gaps}
 use Rattle.definition.specs.Lists.{Lists, push}
 use Rattle.definition.specs.Calls.{Heap}
-use Rattle.definition.specs.Order.{out, BlockAt, LeftAt, at-split, at-low, left-high, at-whole}
-use Rattle.definition.specs.Members.{Mem, mem-push}
-use Rattle.definition.specs.Gaps.{Spot, gaps-spot, gaps-add, gaps-cases, gap-used}
-use Rattle.definition.specs.Regions.{two-grains}
+use Rattle.invariants.specs.Order.{out, BlockAt, LeftAt, at-split, at-low, left-high, at-whole}
+use Rattle.invariants.specs.Members.{Mem, mem-push}
+use Rattle.invariants.specs.Gaps.{Spot, gaps-spot, gaps-add, gaps-cases, gap-used}
+use Rattle.invariants.specs.Regions.{two-grains}
 use Rattle.script.specs.Memory.{Memory, Next, Table, none, root, Write, _at_≔_, apply, apply-append}
 use Rattle.script.specs.Script.{Gives, ok, no, run, done, stop, goes, over, over-run, inv-bind, inv-get, inv-done, inv-le, unlessLe, mustEq, mustLe}
 use Rattle.sound.specs.Sound.{Sound, InTable}

@@ -9,9 +9,9 @@ use Rattle.class.specs.Class.{listOf}
 use Rattle.definition.specs.Blocks.{Block, used, total, _⟨⟩_, room, past}
 use Rattle.definition.specs.Lists.{Lists, skip}
 use Rattle.definition.specs.Calls.{Heap, place, keeps}
-use Rattle.definition.specs.Order.{out, Inside, BlockAt, at-here, stands-at, at-whole}
-use Rattle.definition.specs.Neighbours.{total-past}
-use Rattle.definition.specs.Placing.{Align, align-pos, place-some, keeps-holds}
+use Rattle.invariants.specs.Order.{out, Inside, BlockAt, at-here, stands-at, at-whole}
+use Rattle.invariants.specs.Neighbours.{total-past}
+use Rattle.invariants.specs.Placing.{Align, align-pos, place-some, keeps-holds}
 use Rattle.script.specs.Memory.{Memory, none, apply}
 use Rattle.script.specs.Script.{ok, run, Gives}
 use Rattle.sound.specs.Sound.{Sound}

@@ -9,20 +9,21 @@ use Rattle.class.specs.Class.{listOf}
 use Rattle.definition.specs.Blocks.{Block, free, used, total, _⟨⟩_, room, past}
 use Rattle.definition.specs.Lists.{Lists, skip}
 use Rattle.definition.specs.Calls.{Heap, place}
-use Rattle.definition.specs.Order.{out, BlockAt, at-here, stands-at, before, behind, at-whole}
-use Rattle.definition.specs.Neighbours.{swallow-behind, total-past}
-use Rattle.definition.specs.Kept.{kept-join-back}
+use Rattle.invariants.specs.Order.{out, BlockAt, at-here, stands-at, before, behind, at-whole}
+use Rattle.invariants.specs.Neighbours.{swallow-behind, total-past}
 use Rattle.script.specs.Memory.{Memory, Next, Live, none, root, Write, latest}
 use Rattle.script.specs.Script.{Script, ok, run, Gives, goes, halts, inv-bind, inv-done, _>>=_}
 use Rattle.sound.specs.Sound.{Sound}
 use Rattle.sound.specs.Checks.{mustList, seeHead, Beside, nobody, somebody, Owner, seeOwner, seeBehind, seeBefore}
 use Rattle.sound.specs.Plans.{Plan, leaves, afterwards, bothLeave, giveBackScript, joinScript, freeWrites, roomOf}
 use Rattle.sound.specs.Relists.{relists-none}
+use Rattle.sound.specs.Swaps.{used-place}
 use Rattle.sound.specs.Skips.{skips-behind, fewer-behind, skips-both, fewer-both}
 use Rattle.sound.specs.SeenBeside.{Here, beside, room-seen, owner-seen, behind-seen, before-seen}
 use Rattle.sound.specs.Seen.{lists-real, head-seen, not-owner}
 use Rattle.sound.specs.PayloadWrites.{Spares, spares-append, spares-from, push-off, free-off, Unlisted, used-unlisted, Aside, aside-off, aside-edge, after-off, leaves-off}
 use Rattle.sound.specs.PayloadTake.{used-small, free-aside}
+use Rattle.invariants.specs.Kept.{kept-join-back}
 use Rattle.sound.specs.Links.{pushWrites}
 
 -- what joinScript plans, where the heads are seen
@@ -63,7 +64,7 @@ module _ (n c : ℕ) (m : Memory) (f : Lists) (l r : List Block) (s d : ℕ) (o 
   -- another used block lies beside it and its free neighbours
   pub both-aside : (y t e : ℕ) → BlockAt y (used t e) 0 (l ⟨⟩ used s d ∷ r) → (2 * y + e ≡ 2 * total l + d → ⊥) → Aside y t (total (past l)) (room l + (s + room r))
   both-aside y t e b ne = ⊎-elim
-      (λ (i : (y ≡ total l) × (used s d ≡ used t e)). let j : used s d ≡ used t e = i .1 in let k : d ≡ e = cc in absurd (ne (omega (arith, i .0))))
+      (λ (i : (y ≡ total l) × (used s d ≡ used t e)). absurd (ne (omega (arith, i .0, used-place (i .1)))))
       (λ (i : BlockAt y (used t e) 0 (past l ⟨⟩ free (room l + (s + room r)) ∷ past r)). free-aside (past l ⟨⟩ free (room l + (s + room r)) ∷ past r) y t e (total (past l)) (room l + (s + room r)) i (at-here (past l) (past r) (free (room l + (s + room r)))))
       (kept-join-back y (used t e) tt l r s d (room l + (s + room r)) refl b)
 

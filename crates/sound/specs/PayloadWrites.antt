@@ -10,9 +10,9 @@ use Rattle.choice.specs.Choice.{eq-case}
 use Rattle.class.specs.Class.{listOf}
 use Rattle.definition.specs.Blocks.{Block, free, used, last, gap}
 use Rattle.definition.specs.Lists.{Lists}
-use Rattle.definition.specs.Order.{out, BlockAt, Apart, same, before, behind, apart, at-whole}
-use Rattle.definition.specs.Members.{Mem, Apiece}
-use Rattle.definition.specs.Moves.{Sane, free-used}
+use Rattle.invariants.specs.Order.{out, BlockAt, Apart, same, before, behind, apart, at-whole}
+use Rattle.invariants.specs.Members.{Mem, Apiece}
+use Rattle.invariants.specs.Moves.{Sane, free-used}
 use Rattle.script.specs.Memory.{Memory, Next, Prev, none, root, Write, _at_≔_, latest, apply, apply-is}
 use Rattle.sound.specs.Chain.{Real, node-mem, next-mem, head-is}
 use Rattle.sound.specs.Strung.{Strung}
@@ -21,7 +21,7 @@ use Rattle.sound.specs.Finish.{Lives}
 use Rattle.sound.specs.Leave.{leaveWrites}
 use Rattle.sound.specs.Plans.{padWrites, wholeWrites, splitWrites, freeWrites, leaves, afterwards}
 use Rattle.sound.specs.SeenBeside.{beside}
-use Rattle.sound.specs.Links.{unlinkWrites, pushWrites, node}
+use Rattle.sound.specs.Links.{node, unlinkWrites, pushWrites}
 
 -- the word of field f at grain x is one of the payload
 abbrev pub InPayload : ℕ → ℕ → ℕ → ℕ → ℕ → Type 0

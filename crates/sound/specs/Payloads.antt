@@ -5,7 +5,7 @@ use mathlib.Core.Path.{_≡_}
 use mathlib.Core.List.{List, [], _∷_}
 use Rattle.definition.specs.Blocks.{used}
 use Rattle.definition.specs.Calls.{Heap}
-use Rattle.definition.specs.Order.{BlockAt}
+use Rattle.invariants.specs.Order.{BlockAt}
 use Rattle.script.specs.Memory.{Memory, Write, apply, apply-spared, Spared}
 use Rattle.script.specs.Script.{ok, run}
 use Rattle.sound.specs.Sound.{Sound}

@@ -8,9 +8,9 @@ use Rattle.choice.specs.Choice.{eq-yes, eq-no, le-yes, le-no, same?, le?}
 use Rattle.definition.specs.Blocks.{Block, used, total, room, past}
 use Rattle.definition.specs.Lists.{Lists}
 use Rattle.definition.specs.Calls.{Heap, Answer, refused, granted, take, place, keeps}
-use Rattle.definition.specs.Neighbours.{total-past}
-use Rattle.definition.specs.Placing.{Align}
-use Rattle.definition.specs.Promises.{Granted, take-granted}
+use Rattle.invariants.specs.Neighbours.{total-past}
+use Rattle.invariants.specs.Placing.{Align}
+use Rattle.invariants.specs.Promises.{Granted, take-granted}
 use Rattle.script.specs.Memory.{Memory, Live, Write, _at_≔_, apply}
 use Rattle.script.specs.Script.{run, Gives, goes, inv-bind, inv-done, over, over-run}
 use Rattle.sound.specs.Sound.{Sound}

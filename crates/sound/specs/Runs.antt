@@ -6,7 +6,7 @@ use native.Mathlib.Omega.{arith}
 use mathlib.Core.Path.{_≡_, refl, ap, sym, _∙_, subst}
 use mathlib.Core.List.{List, [], _∷_}
 use Rattle.definition.specs.Calls.{Heap, Answer, refused, granted, empty}
-use Rattle.definition.specs.Placing.{Align}
+use Rattle.invariants.specs.Placing.{Align}
 use Rattle.script.specs.Memory.{Memory, Next, Mark, Live, Table, none, root, apply, apply-untouched}
 use Rattle.script.specs.Script.{Script, Result, ok, no, run, Gives, ends-gives}
 use Rattle.sound.specs.Sound.{Sound}
