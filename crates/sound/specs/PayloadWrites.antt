@@ -97,15 +97,6 @@ module _ (y s : ℕ) where
 abbrev pub Unlisted : Lists → ℕ → ℕ → Type 0
 Unlisted f y s = (u : ℕ) → y ≤ u → u < y + s → NotIn f u
 
--- so it is with every used block
-pub used-unlisted : (c : ℕ) (A : List Block) (f : Lists) (y s d : ℕ) → Sane c A f → BlockAt y (used s d) 0 A → Unlisted f y s
-used-unlisted c A f y s d o h u p q k i = let g = o .exact .there k u i in go (g .0) (g .1) (apart y u 0 (used s d) (free (g .0)) A h (g .1))
-  where
-    go : (t : ℕ) → BlockAt u (free t) 0 A → Apart y (used s d) u (free t) → ⊥
-    go t b (same a e) = free-used e
-    go t b (before a) = omega arith
-    go t b (behind a) = omega (arith, at-whole u (free t) 0 out A (o .order) b)
-
 module _ (m : Memory) (f : Lists) (o : Apiece f) (r : Real f) (st : Strung m f) (y s : ℕ) (small : y + s ≤ none) (un : Unlisted f y s) where
   -- a link to a member, or to none
   link-off : (k x : ℕ) → (x ≡ none) ⊎ Mem x (f k) → Off y s x
