@@ -1,18 +1,18 @@
 -- What holds of every heap (`Ok`), and the moves of which all calls are made. Each move keeps it.
-use Prim.Native.Nat.{ℕ, zero, suc, _+_, _-_, _*_, _≤_, _<_}
+use Prim.Native.Nat.{ℕ, _+_, _≤_, _<_}
 use native.Mathlib.Omega.{arith}
 use native.Mathlib.Nat.{add-assoc}
-use mathlib.Core.Path.{_≡_, refl, ap, sym, _∙_, subst}
+use mathlib.Core.Path.{_≡_, refl, ap, sym, subst}
 use mathlib.Core.List.{List, [], _∷_}
 use mathlib.Core.Logic.{_⊎_, inl, inr, ⊎-elim}
-use Rattle.choice.specs.Choice.{upd, upd-same, upd-other}
+use Rattle.choice.specs.Choice.{upd-same}
 use Rattle.class.specs.Class.{listOf}
-use Rattle.definition.specs.Blocks.{Block, free, used, last, gap, size, total, _⟨⟩_, gaps}
-use Rattle.definition.specs.Lists.{Lists, push, drop, remove}
+use Rattle.definition.specs.Blocks.{Block, free, used, last, gap, total, _⟨⟩_}
+use Rattle.definition.specs.Lists.{Lists, push, drop}
 use Rattle.definition.specs.Calls.{Heap}
-use Rattle.invariants.specs.Order.{Side, out, busy, idle, side, sideL, Fits, Inside, Whole, Ordered, OrderedL, order-split, order-join, BlockAt, LeftAt, at-split, at-join, at-here, at-low, left-lt, used-fits, some, apart, Apart, same, before, behind, at-whole}
-use Rattle.invariants.specs.Members.{Mem, NoDup, Apiece, mem-drop, mem-dropped, dropped, apiece-drop, mem-push, mem-pushed, apiece-push}
-use Rattle.invariants.specs.Pieces.{Piece, pieces, pieces-behind, Listed}
+use Rattle.invariants.specs.Order.{out, busy, idle, sideL, Fits, Inside, Ordered, OrderedL, order-split, order-join, BlockAt, LeftAt, at-split, at-join, at-here, at-low, left-lt, used-fits, apart, Apart, same, before, behind, at-whole}
+use Rattle.invariants.specs.Members.{Mem, Apiece, mem-drop, mem-dropped, dropped, apiece-drop, mem-push, mem-pushed, apiece-push}
+use Rattle.invariants.specs.Pieces.{pieces, pieces-behind, Listed}
 
 -- each list holds exactly the free blocks of its class, each once
 pub record Exact (xs : List Block) (f : Lists) : Type 0 where

@@ -11,17 +11,17 @@ use Rattle.definition.specs.Lists.{Lists, push}
 use Rattle.definition.specs.Calls.{Heap}
 use Rattle.invariants.specs.Order.{out, BlockAt, LeftAt, at-split, at-low, left-high, at-whole}
 use Rattle.invariants.specs.Members.{Mem, mem-push}
-use Rattle.invariants.specs.Gaps.{Spot, gaps-spot, gaps-add, gaps-cases, gap-used}
+use Rattle.invariants.specs.Gaps.{Spot, gaps-add, gaps-cases, gap-used}
 use Rattle.invariants.specs.Regions.{two-grains}
 use Rattle.script.specs.Memory.{Memory, Next, Table, none, root, Write, _at_≔_, apply, apply-append}
 use Rattle.script.specs.Script.{Gives, ok, no, run, done, stop, goes, over, over-run, inv-bind, inv-get, inv-done, inv-le, unlessLe, mustEq, mustLe}
-use Rattle.sound.specs.Sound.{Sound, InTable}
+use Rattle.sound.specs.Sound.{Sound}
 use Rattle.sound.specs.Checks.{seeHead, few-head}
 use Rattle.sound.specs.Plans.{Plan}
 use Rattle.sound.specs.RegionPlan.{Looked, Layout, pieceWrites, seeRegions, layScript, regionScript}
 use Rattle.sound.specs.Founded.{Founded, sound-founded, founded-real, head-founded}
 use Rattle.sound.specs.Laying.{piece-founded}
-use Rattle.sound.specs.RegionTable.{firstOf, endOf, Overlap, Passed, look}
+use Rattle.sound.specs.RegionTable.{Overlap, Passed, look}
 use Rattle.sound.specs.PayloadWrites.{Spares, spares-append, spares-from, table-word, push-off, Unlisted, head-off, Aside, aside-off, aside-edge}
 use Rattle.sound.specs.PayloadTake.{used-small}
 use Rattle.invariants.specs.Moves.{used-unlisted}

@@ -10,9 +10,8 @@ use Rattle.choice.specs.Choice.{eq-case}
 use Rattle.class.specs.Class.{listOf}
 use Rattle.definition.specs.Blocks.{Block, free, used, last, gap}
 use Rattle.definition.specs.Lists.{Lists}
-use Rattle.invariants.specs.Order.{out, BlockAt, Apart, same, before, behind, apart, at-whole}
+use Rattle.invariants.specs.Order.{before, behind}
 use Rattle.invariants.specs.Members.{Mem, Apiece}
-use Rattle.invariants.specs.Moves.{Sane, free-used}
 use Rattle.script.specs.Memory.{Memory, Next, Prev, none, root, Write, _at_≔_, latest, apply, apply-is}
 use Rattle.sound.specs.Chain.{Real, node-mem, next-mem, head-is}
 use Rattle.sound.specs.Strung.{Strung}

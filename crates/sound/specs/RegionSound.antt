@@ -1,6 +1,6 @@
 -- Giving a region does what the definition says: on a sound memory it is refused with 4 exactly where the definition
 -- refuses, and else what is written stands for the heap after the call. Nothing is refused with 5.
-use Prim.Native.Nat.{ℕ, zero, suc, _+_, _-_, _*_, _^_, _≤_, _<_}
+use Prim.Native.Nat.{ℕ, zero, suc, _+_, _-_, _*_, _≤_, _<_}
 use native.Mathlib.Omega.{arith}
 use mathlib.Core.Path.{_≡_, refl, ap, sym, _∙_, subst}
 use mathlib.Core.List.{List, [], _∷_, _++_}
@@ -17,7 +17,7 @@ use Rattle.script.specs.Script.{Script, no, run, done, stop, reads, goes, halts
 use Rattle.sound.specs.Sound.{InTable, Given, Sound}
 use Rattle.sound.specs.Plans.{Plan}
 use Rattle.sound.specs.RegionPlan.{Looked, seeRegions, Layout, layScript, regionScript}
-use Rattle.sound.specs.Meets.{Meets, Grants}
+use Rattle.sound.specs.Meets.{Meets}
 use Rattle.sound.specs.Founded.{Founded, sound-founded}
 use Rattle.sound.specs.Laying.{lays}
 use Rattle.sound.specs.RegionTable.{firstOf, endOf, Overlap, Passed, look, Longer, given-more, filled}
@@ -71,9 +71,9 @@ pub clear-spot : (n c g len : ℕ) (m : Memory) (h : Heap) → Sound n c m h →
 clear-spot n c g len m h b some near p = gaps-spot g len (h .blocks) some (b .heap .order) (λ y u v. ⊎-elim
     (λ (k : BlockAt y gap 0 (h .blocks)). k)
     (λ (k : InTable m y). absurd (⊎-elim
-      (λ (a : endOf m (k .0) ≤ g). omega (arith, k .3))
-      (λ (a : g + len ≤ firstOf m (k .0)). omega (arith, k .2))
-      (p .clear (k .0) (omega arith) (omega (arith, k .1)))))
+    (λ (a : endOf m (k .0) ≤ g). omega (arith, k .3))
+    (λ (a : g + len ≤ firstOf m (k .0)). omega (arith, k .2))
+    (p .clear (k .0) (omega arith) (omega (arith, k .1)))))
     (b .given .either y (omega (arith, b .whole))))
 
 -- the plan for a region laid as w, which becomes region r

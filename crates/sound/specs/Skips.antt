@@ -2,15 +2,14 @@
 -- list. Return and resize swallow their neighbours so. The two neighbours may stand beside each other in one list: what
 -- is read of the second before anything is written is put right by `afterwards`.
 use Prim.Native.Nat.{ℕ, _+_, _≤_, _<_}
-use native.Mathlib.Omega.{arith}
 use mathlib.Core.Path.{_≡_, refl, sym, subst}
 use mathlib.Core.List.{List, [], _∷_}
 use Rattle.class.specs.Class.{listOf}
 use Rattle.definition.specs.Blocks.{Block, free, used, last, gap, total, _⟨⟩_, room, past}
 use Rattle.definition.specs.Lists.{Lists, skip}
-use Rattle.invariants.specs.Order.{out, BlockAt, at-here, Apart, same, before, behind, apart, at-whole}
+use Rattle.invariants.specs.Order.{BlockAt, at-here, before, behind}
 use Rattle.invariants.specs.Members.{Mem, Apiece, mem-drop}
-use Rattle.invariants.specs.Moves.{Sane, free-used, used-unlisted}
+use Rattle.invariants.specs.Moves.{Sane, used-unlisted}
 use Rattle.invariants.specs.Neighbours.{swallow, swallow-behind}
 use Rattle.script.specs.Memory.{Memory, Next, Prev, Write, apply, apply-is}
 use Rattle.sound.specs.Chain.{Real}

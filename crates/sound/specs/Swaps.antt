@@ -1,17 +1,17 @@
 -- What a call does to the blocks that are not free: one goes, one comes, the rest stays. With it the live bits, the words
 -- before payloads and the given grains of a memory follow.
-use Prim.Native.Nat.{ℕ, zero, suc, _+_, _-_, _*_, _/_, _%_, _≤_, _<_}
+use Prim.Native.Nat.{ℕ, _+_, _-_, _*_, _/_, _%_, _≤_, _<_}
 use native.Mathlib.Omega.{arith}
-use mathlib.Core.Path.{_≡_, refl, ap, sym, _∙_, subst}
-use mathlib.Core.List.{List, [], _∷_}
+use mathlib.Core.Path.{_≡_, ap, sym, _∙_, subst}
+use mathlib.Core.List.{List}
 use mathlib.Core.Logic.{_⊎_, inl, inr, ⊎-elim}
 use Rattle.choice.specs.Choice.{upd, upd-same, upd-other, same?}
-use Rattle.definition.specs.Blocks.{Block, free, used, last, gap, size, total, _⟨⟩_}
+use Rattle.definition.specs.Blocks.{Block, free, used, gap, total}
 use Rattle.definition.specs.Lists.{Lists}
-use Rattle.invariants.specs.Order.{Side, out, Ordered, Whole, Inside, some, BlockAt, Apart, same, before, behind, apart, at-whole}
+use Rattle.invariants.specs.Order.{out, Ordered, Whole, Inside, some, BlockAt, Apart, same, before, behind, apart, at-whole}
 use Rattle.invariants.specs.Moves.{Sane, used-unlisted}
 use Rattle.invariants.specs.Kept.{Solid}
-use Rattle.script.specs.Memory.{Memory, Prev, Live, Table, none}
+use Rattle.script.specs.Memory.{Memory, Prev, Live, Table}
 use Rattle.sound.specs.Sound.{Lively, Padded, InTable, Given}
 use Rattle.sound.specs.Relists.{NotIn}
 
