@@ -4,3 +4,6 @@ pub mod Lent
 pub mod Back
 pub mod Place
 pub mod Seen
+pub mod Headed
+pub mod Written
+pub mod Moves
