@@ -7,3 +7,4 @@ pub mod Fields
 pub mod Kept
 pub mod Stored
 pub mod Widths
+pub mod Ample

@@ -1,16 +1,16 @@
 -- Constant cost: on any memory, damaged or not, take, return and resize read at most so many words, search the map at most
 -- once, and write at most so many words. The numbers are in the statements.
-use Prim.Native.Nat.{ℕ, zero, suc, _+_, _-_, _*_, _%_, _≤_, _<_}
+use Prim.Native.Nat.{ℕ, suc, _+_, _-_, _*_, _%_, _≤_}
 use native.Mathlib.Omega.{arith}
-use mathlib.Core.List.{List, [], _∷_, _++_}
+use mathlib.Core.List.{List, _∷_}
 use lib.ListN.{length, length-append}
-use Rattle.choice.specs.Choice.{ifEq, ifLe, eq-case, le-case}
-use Rattle.class.specs.Class.{listOf, startOf}
-use Rattle.definition.specs.Calls.{wanted, place, keeps}
-use Rattle.script.specs.Memory.{Next, Prev, Before, Live, Mark, none, root, Write, _at_≔_, latest}
-use Rattle.script.specs.Script.{Script, read, first, done, _>>=_, _>>_, get, unlessLe, mustEq, over, AtMost, few-eq, few-le, few-then, few-bind, few-after, over-few, Ends, ends-bind, ends-any, ends-over}
-use Rattle.sound.specs.Checks.{wordOf, asFree, asBusy, mustGrain, mustBack, mustList, seeHead, seeBehind, seeBefore, seeOwner, Beside, nobody, somebody, Owner, few-back, few-head, few-behind, few-before, few-owner, few-free, few-busy}
-use Rattle.sound.specs.Plans.{Plan, leaveScript, wholeWrites, splitWrites, padWrites, freeWrites, leaves, afterwards, bothLeave, roomOf, takeScript, joinScript, giveBackScript, elsewhereScript, downScript, moveScript, stretchScript, growScript, resizeScript}
+use Rattle.choice.specs.Choice.{eq-case, le-case}
+use Rattle.class.specs.Class.{listOf}
+use Rattle.definition.specs.Calls.{place, keeps}
+use Rattle.script.specs.Memory.{Next, Prev, none, Write, _at_≔_}
+use Rattle.script.specs.Script.{Script, read, unlessLe, mustEq, over, AtMost, few-eq, few-le, few-then, few-bind, few-after, over-few, Ends, ends-bind, ends-any, ends-over}
+use Rattle.sound.specs.Checks.{wordOf, asFree, asBusy, mustGrain, mustBack, mustList, seeHead, seeBehind, seeBefore, seeOwner, Beside, nobody, somebody, few-back, few-head, few-behind, few-before, few-owner, few-free, few-busy}
+use Rattle.sound.specs.Plans.{Plan, leaveScript, padWrites, leaves, afterwards, bothLeave, roomOf, takeScript, joinScript, giveBackScript, elsewhereScript, downScript, moveScript, stretchScript, growScript, resizeScript}
 use Rattle.sound.specs.Links.{node, unlinkWrites, pushWrites}
 
 -- ---- reads
@@ -77,12 +77,8 @@ resize-reads n c q p a =
 -- ---- writes
 
 unlink-length : (k x p : ℕ) → length (unlinkWrites k x p) ≤ 2
-unlink-length k x p = one (ifEq x none (ifEq p none ((Mark at k ≔ 0) ∷ []) []) ((Prev at x ≔ p) ∷ []))
-    (eq-case (λ (w : List Write). length w ≤ 1) x none _ _
-    (λ _. eq-case (λ (w : List Write). length w ≤ 1) p none _ _ (λ _. omega arith) (λ _. omega arith)) (λ _. omega arith))
-  where
-    one : (w : List Write) → length w ≤ 1 → length ((Next at node k p ≔ x) ∷ w) ≤ 2
-    one w h = omega arith
+unlink-length k x p = eq-case (λ (w : List Write). length ((Next at node k p ≔ x) ∷ w) ≤ 2) x none _ _
+    (λ _. eq-case (λ (w : List Write). length ((Next at node k p ≔ x) ∷ w) ≤ 2) p none _ _ (λ _. omega arith) (λ _. omega arith)) (λ _. omega arith)
 
 push-length : (k y h : ℕ) → length (pushWrites k y h) ≤ 4
 push-length k y h = eq-case (λ (w : List Write). length w ≤ 4) h none _ _ (λ _. omega arith) (λ _. omega arith)
@@ -97,12 +93,16 @@ leaves-length (somebody t e) = unlink-length (listOf t) (e .next) (e .prev)
 both-length : (a : Beside) (z : ℕ) (b : Beside) → length (bothLeave a z b) ≤ 4
 both-length a z b = rw length-append (omega (arith, leaves-length a, leaves-length (afterwards (leaves a) z b)))
 
+-- three parts, of known lengths at the most
+three : {a b c : ℕ} (i j k : ℕ) → a ≤ i → b ≤ j → c ≤ k → a + b + c ≤ i + (j + k)
+three i j k p q r = omega arith
+
 leave-length : (n c : ℕ) (w : List Write) (x t k i : ℕ) → length w ≤ i → Ends (λ v. length v ≤ i + 8) (leaveScript n c w x t k)
 unfolding leaveScript
 leave-length n c w x t k i h = eq-case (Ends (λ v. length v ≤ i + 8)) k t _ _
     (λ _. rw length-append (omega arith))
     (λ _. ends-any _ (mustList c (t - k)) _ λ _. ends-any _ (seeHead n (listOf (t - k))) _ λ g.
-    rw (length-append, length-append) (omega (arith, push-length (listOf (t - k)) (x + k) (latest w Next (root (listOf (t - k))) g))))
+    rw (length-append, length-append) (three i 4 4 h (push-length _ _ _) (omega arith)))
 
 -- a take: 12 words
 pub take-writes : (n c p a : ℕ) → Ends (λ (t : Plan). length (t .writes) ≤ 12) (takeScript n c p a)
@@ -124,7 +124,7 @@ unfolding joinScript
 join-length n c q z t w i =
     ends-any _ (mustList c t) _ λ _.
     ends-any _ (seeHead n (listOf t)) _ λ h.
-    rw (length-append, length-append) (omega (arith, push-length (listOf t) z (latest w Next (root (listOf t)) h)))
+    rw (length-append, length-append) (three 4 4 3 i (push-length _ _ _) (omega arith))
 
 -- a return: 11 words
 pub back-writes : (n c q : ℕ) → Ends (λ (t : Plan). length (t .writes) ≤ 11) (giveBackScript n c q)

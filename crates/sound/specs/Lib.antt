@@ -15,6 +15,17 @@ pub mod Sound
 pub mod Meets
 pub mod Determined
 pub mod Fresh
+-- any memory, damaged or not: what an answer tells, with which numbers is refused, and that every write can be stored
+pub mod Inverted
+pub mod Checked
+pub mod TakeChecked
+pub mod RegionChecked
+pub mod Refused
+pub mod RefusedCalls
+pub mod Writable
+pub mod WritableCalls
+pub mod WritableResize
+pub mod WritableRegion
 -- steps of the proofs: the checks go through; rows and lists after the writes; what is left to show
 pub mod Seen
 pub mod SeenBeside
@@ -35,3 +46,17 @@ pub mod ResizeInPlace
 pub mod ResizeDown
 pub mod ResizeSound
 pub mod RegionSound
+-- all calls at once, and lists of calls
+pub mod Calls
+pub mod LiveResize
+pub mod TableWrites
+pub mod Runs
+-- payloads: no call writes into one that it is not about
+pub mod PayloadWrites
+pub mod PayloadTake
+pub mod PayloadReturn
+pub mod ResizeSteps
+pub mod PayloadResize
+pub mod PayloadMoved
+pub mod PayloadRegions
+pub mod Payloads

@@ -4,11 +4,11 @@ use Prim.Native.Nat.{ℕ}
 use mathlib.Core.Path.{_≡_}
 use Rattle.definition.specs.Calls.{Heap, Refusal, noList, notLive, noRegion, Answer, refused, granted}
 use Rattle.script.specs.Memory.{Memory, apply}
-use Rattle.script.specs.Script.{Script, Result, ok, no, run}
+use Rattle.script.specs.Script.{Script, ok, no, run}
 use Rattle.sound.specs.Sound.{Sound}
 use Rattle.sound.specs.Plans.{Plan}
 
--- the numbers of document 01, section 9
+-- the numbers that a caller sees
 abbrev pub number : Refusal → ℕ
 number noList = 1
 number notLive = 3
