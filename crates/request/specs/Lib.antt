@@ -1,0 +1,5 @@
+-- Requests.
+pub mod Alignment
+pub mod Asked
+pub mod Placed
+pub mod Returned
