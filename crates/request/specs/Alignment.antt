@@ -1,9 +1,9 @@
 -- Alignments that a caller may ask for, and what they are in half grains. A power of two is below another one, or a
 -- multiple of it: so what stands below 16 is one half grain, 16 is one, and from 32 on an alignment is an even number.
 use Prim.Native.Nat.{ℕ, _+_, _-_, _*_, _/_, _%_, _^_, _≤_, _<_}
-use native.Mathlib.Nat.{mul-mod-left}
+use native.Mathlib.Nat.{mul-mod-left, mul-assoc, div-add-mod'}
 use native.Mathlib.Omega.{arith}
-use mathlib.Core.Path.{_≡_, refl, ap, sym, subst, _∙_}
+use mathlib.Core.Path.{_≡_, ap, sym, subst, _∙_}
 use mathlib.Core.Bool.{Bool, true, false}
 use mathlib.Core.Logic.{_⊎_, inl, inr, ⊎-elim}
 use lib.Bits.{bitAnd, and-mask}
@@ -21,8 +21,8 @@ pub record Alignment (a : ℕ) : Type 0 where
 
 -- ---- powers of two beside each other
 
--- 2 ^ t as often as k goes into t
-pow-split : (k t : ℕ) → k ≤ t → 2 ^ t ≡ 2 ^ (t - k) * 2 ^ k
+-- a power with 2 ^ k taken out
+pub pow-split : (k t : ℕ) → k ≤ t → 2 ^ t ≡ 2 ^ (t - k) * 2 ^ k
 pow-split k t h =
     let e : t ≡ t - k + k = omega arith in
     ap (λ (z : ℕ). 2 ^ z) e ∙ pow-add 2 (t - k) k
@@ -33,6 +33,12 @@ power-beside k a p = ⊎-elim
     (λ (h : k ≤ p .0). inr (ap (λ (z : ℕ). z % 2 ^ k) (p .1 ∙ pow-split k (p .0) h) ∙ mul-mod-left (2 ^ (p .0 - k)) (2 ^ k)))
     (λ (h : p .0 < k). inl (subst (λ (z : ℕ). z < 2 ^ k) (sym (p .1)) (pow-lt h)))
     (le? k (p .0))
+
+-- what divides a number divides its multiples
+pub divides-times : (k b a : ℕ) → b % a ≡ 0 → k * b % a ≡ 0
+divides-times k b a e =
+    let f : b ≡ b / a * a = omega (arith, div-add-mod' b a) in
+    ap (λ (z : ℕ). k * z % a) f ∙ ap (λ (z : ℕ). z % a) (sym (mul-assoc k (b / a) a)) ∙ mul-mod-left (k * (b / a)) a
 
 -- a number's rest by a power of two is cut out by the power less 1
 pub rest-masked : (x a : ℕ) → Power a → bitAnd x (a - 1) ≡ x % a

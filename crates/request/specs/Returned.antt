@@ -2,21 +2,24 @@
 -- than a multiple of 32, or of the large kind, a multiple of 32, or of none. The alignment has to suit it: first that
 -- is seen to, and then the offset's kind.
 use Prim.Native.Nat.{ℕ, _+_, _-_, _*_, _/_, _%_, _^_, _≤_, _<_}
-use native.Mathlib.Nat.{div-add-mod', mul-mod-left, mul-assoc}
+use native.Mathlib.Nat.{div-add-mod'}
 use native.Mathlib.Omega.{arith}
 use mathlib.Core.Path.{_≡_, refl, ap, sym, _∙_}
 use mathlib.Core.Logic.{_⊎_, inl, inr, ⊎-elim}
 use lib.Bits.{bitAnd}
-use Rattle.align.specs.Align.{Power, power-pos}
+use Rattle.align.specs.Align.{Power}
 use Rattle.request.specs.declared.Payload.{Payload}
 use Rattle.request.specs.declared.Payload.the-variants.{At, Unsuited, NoKind}
-use Rattle.request.specs.Alignment.{Alignment, rest-masked, power-beside}
+use Rattle.request.specs.Alignment.{Alignment, rest-masked, power-beside, divides-times}
 
 abbrev pub Small : ℕ → Type 0
 Small x = x % 32 ≡ 16
 
 abbrev pub Large : ℕ → Type 0
 Large x = x % 32 ≡ 0
+
+abbrev pub OfKind : ℕ → Type 0
+OfKind x = Small x ⊎ Large x
 
 -- the alignment is one, divides the offset, and is not of the other kind
 pub record Suits (x a : ℕ) : Type 0 where
@@ -25,11 +28,17 @@ pub record Suits (x a : ℕ) : Type 0 where
   pub small : Small x → a < 32
   pub large : Large x → 32 ≤ a
 
--- the payload's number in half grains, or what is wrong: the alignment (refusal 2), or else the offset (refusal 3)
+-- offset and alignment are a payload's, the one of number q in half grains
+pub record Stands (x a q : ℕ) : Type 0 where
+  pub suits : Suits x a
+  pub kind : OfKind x
+  pub number : q ≡ x / 16
+
+-- the payload's number, or what is wrong: the alignment (refusal 2), or else the offset (refusal 3)
 abbrev pub Returned : ℕ → ℕ → Payload → Type 0
-Returned x a (At q) = Suits x a × (Small x ⊎ Large x) × (q ≡ x / 16)
+Returned x a (At q) = Stands x a q
 Returned x a Unsuited = Suits x a → ⊥
-Returned x a NoKind = Suits x a × (Small x ⊎ Large x → ⊥)
+Returned x a NoKind = Suits x a × (OfKind x → ⊥)
 
 -- ---- as the code has it
 
@@ -41,24 +50,25 @@ unsuited-none x a h s = h (s .alignment)
 pub unsuited-rest : (x a : ℕ) → (bitAnd x (a - 1) ≡ 0 → ⊥) → Suits x a → ⊥
 unsuited-rest x a h s = h (rest-masked x a (s .alignment .power) ∙ s .divides)
 
--- a multiple of a multiple of 32 is one
-large-divides : (x a : ℕ) → Power a → 32 ≤ a → x % a ≡ 0 → Large x
-large-divides x a p h e = ⊎-elim
+-- an alignment of the large kind divides only offsets of that kind
+pub large-divides : (x a : ℕ) → Power a → 32 ≤ a → x % a ≡ 0 → Large x
+large-divides x a p h e =
+    let v : x ≡ x / a * a = omega (arith, div-add-mod' x a) in
+    ⊎-elim
     (λ (l : a < 2 ^ 5). absurd (omega arith))
-    (λ (l : a % 2 ^ 5 ≡ 0). through (omega arith))
+    (λ (l : a % 2 ^ 5 ≡ 0). ap (λ (z : ℕ). z % 32) v ∙ divides-times (x / a) a 32 l)
     (power-beside 5 a p)
-  where
-    through : a ≡ a / 32 * 32 → Large x
-    through f =
-        let v : x ≡ x / a * (a / 32 * 32) = omega (arith, div-add-mod' x a, ap (λ (z : ℕ). x / a * z) f) in
-        ap (λ (z : ℕ). z % 32) (v ∙ sym (mul-assoc (x / a) (a / 32) 32)) ∙ mul-mod-left (x / a * (a / 32)) 32
 
 -- of the large kind
-pub returned-large : (x a : ℕ) → Alignment a → bitAnd x (a - 1) ≡ 0 → 32 ≤ a → Returned x a (At (x / 16))
+pub returned-large : (x a : ℕ) → Alignment a → bitAnd x (a - 1) ≡ 0 → 32 ≤ a → Stands x a (x / 16)
 returned-large x a l d h =
     let e : x % a ≡ 0 = sym (rest-masked x a (l .power)) ∙ d in
     let k = large-divides x a (l .power) h e in
-    (record { alignment = l; divides = e; small = λ s. absurd (omega arith); large = λ s. h }, inr k, refl)
+    record {
+      suits = record { alignment = l; divides = e; small = λ s. absurd (omega arith); large = λ s. h };
+      kind = inr k;
+      number = refl;
+    }
 
 -- a small alignment for an offset of the large kind
 pub unsuited-kind : (x a : ℕ) → a < 32 → Large x → Suits x a → ⊥
@@ -74,9 +84,9 @@ suits-small x a l d h k = record {
 }
 
 -- of the small kind
-pub returned-small : (x a : ℕ) → Alignment a → bitAnd x (a - 1) ≡ 0 → a < 32 → (Large x → ⊥) → Small x → Returned x a (At (x / 16))
-returned-small x a l d h k s = (suits-small x a l d h k, inl s, refl)
+pub returned-small : (x a : ℕ) → Alignment a → bitAnd x (a - 1) ≡ 0 → a < 32 → (Large x → ⊥) → Small x → Stands x a (x / 16)
+returned-small x a l d h k s = record { suits = suits-small x a l d h k; kind = inl s; number = refl }
 
 -- of no kind
-pub returned-none : (x a : ℕ) → Alignment a → bitAnd x (a - 1) ≡ 0 → a < 32 → (Large x → ⊥) → (Small x → ⊥) → Returned x a NoKind
+pub returned-none : (x a : ℕ) → Alignment a → bitAnd x (a - 1) ≡ 0 → a < 32 → (Large x → ⊥) → (Small x → ⊥) → Suits x a × (OfKind x → ⊥)
 returned-none x a l d h k s = (suits-small x a l d h k, ⊎-elim s k)
