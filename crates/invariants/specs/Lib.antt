@@ -11,3 +11,5 @@ pub mod Promises
 pub mod NotLive
 pub mod Gaps
 pub mod Regions
+pub mod Stays
+pub mod InPiece
