@@ -1,10 +1,10 @@
 -- The steps of `seeOwner`, and of `blockOf`, as the code takes them: at each return one law says what the script answers.
-use Prim.Native.Nat.{ℕ, zero, suc, _+_, _-_, _*_, _/_, _%_, _≤_, _<_}
+use Prim.Native.Nat.{ℕ, suc, _+_, _-_, _*_, _/_, _%_, _≤_, _<_}
 use native.Mathlib.Omega.{arith}
 use mathlib.Core.Path.{_≡_, refl, ap, sym, _∙_}
 use mathlib.Core.List.{List}
 use lib.ListN.{length}
-use Rattle.choice.specs.Choice.{ifEq, ifLe, eq-yes, eq-no, le-yes, le-no}
+use Rattle.choice.specs.Choice.{eq-yes, eq-no, le-yes, le-no}
 use Rattle.word.specs.Word.{wordAt}
 use Rattle.bits.specs.TableBit.{tableBit}
 use Rattle.script.specs.Memory.{Memory, Size, Before, Prev, Live}

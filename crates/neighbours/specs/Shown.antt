@@ -2,7 +2,7 @@
 use Prim.Native.Nat.{ℕ, zero, suc, _+_, _*_, _≤_, _<_}
 use native.Mathlib.Omega.{arith}
 use mathlib.Core.Path.{_≡_, refl, ap, sym, _∙_}
-use mathlib.Core.Bool.{Bool, true, false}
+use mathlib.Core.Bool.{Bool}
 use mathlib.Core.List.{List}
 use mathlib.Core.Logic.{⊎-elim}
 use lib.ListN.{length}
@@ -24,6 +24,10 @@ use Rattle.neighbours.specs.declared.Beside.{Beside as BesideAnswer}
 -- the memory of the lent slices
 abbrev pub held : List ℕ → List ℕ → List ℕ → List ℕ → Memory
 held a l v t = memoryOf 8 (lent a l v t)
+
+-- the first-level classes, of 16 lists each
+abbrev pub classes : ℕ
+classes = 12
 
 -- the table of the lists has a place for each head
 abbrev pub Long : List ℕ → Type 0

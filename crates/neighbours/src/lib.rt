@@ -2,12 +2,12 @@
 // Each check is a script's, carried out on the lent slices.
 ghost use mathlib.Core.Path.{_≡_};
 ghost use mathlib.Core.List.{List};
-ghost use Prim.Native.Nat.{ℕ, _+_, _*_, _≤_, _<_};
+ghost use Prim.Native.Nat.{ℕ, _*_, _≤_, _<_};
 ghost use lib.ListN.{length};
 ghost use Rattle.script.specs.Script.{run};
 ghost use Rattle.sound.specs.Checks.{blockOf, seeOwner, seeBehind, seeBefore};
 ghost use Rattle.slices.specs.Decode.{grains};
-ghost use Rattle.neighbours.specs.Shown.{held, Long, shownGrain, refusal, shownOwner, alone, shownBeside};
+ghost use Rattle.neighbours.specs.Shown.{held, classes, Long, shownGrain, refusal, shownOwner, alone, shownBeside};
 ghost use Rattle.neighbours.specs.Beside.{seeListed};
 
 // The fields of a header that say which block is before, and before a payload at a grain which block is its own.
@@ -108,7 +108,7 @@ pub struct Beside {
 // What stands at y, behind a used block.
 pub fn see_behind(a: &[u8], lists: &[u64], y: usize) -> Beside
     requires { ⌜ (y < grains 8 (now a)) × Long (now lists) ⌝ }
-    ensures { λ r. ⌜ ((v t : List ℕ) → shownBeside (now (a .entry)) r ≡ run (held (now (a .entry)) (now (lists .entry)) v t) (seeBehind (grains 8 (now (a .entry))) 12 y)) ⌝ }
+    ensures { λ r. ⌜ ((v t : List ℕ) → shownBeside (now (a .entry)) r ≡ run (held (now (a .entry)) (now (lists .entry)) v t) (seeBehind (grains 8 (now (a .entry))) classes y)) ⌝ }
 {
     let t = header::free_at(a, y);
     if t == 0 {
@@ -126,7 +126,7 @@ pub fn see_behind(a: &[u8], lists: &[u64], y: usize) -> Beside
 // What stands before the block at x.
 pub fn see_before(a: &[u8], lists: &[u64], x: usize) -> Beside
     requires { ⌜ (x < grains 8 (now a)) × Long (now lists) ⌝ }
-    ensures { λ r. ⌜ ((v t : List ℕ) → shownBeside (now (a .entry)) r ≡ run (held (now (a .entry)) (now (lists .entry)) v t) (seeBefore (grains 8 (now (a .entry))) 12 x)) ⌝ }
+    ensures { λ r. ⌜ ((v t : List ℕ) → shownBeside (now (a .entry)) r ≡ run (held (now (a .entry)) (now (lists .entry)) v t) (seeBefore (grains 8 (now (a .entry))) classes x)) ⌝ }
 {
     let word = header::field(a, x, BEFORE);
     if word == NONE {
