@@ -1,6 +1,6 @@
 -- A request of n bytes at a multiple of a: when it is in range, and its numbers in half grains and grains. What is
 -- looked for, in bytes, is the number of rlsf: n + 16, and what the alignment has beyond 16, rounded up to 32.
-use Prim.Native.Nat.{ℕ, _+_, _-_, _*_, _/_, _%_, _^_, _≤_, _<_}
+use Prim.Native.Nat.{ℕ, _+_, _-_, _*_, _^_, _≤_, _<_}
 use native.Mathlib.Omega.{arith}
 use mathlib.Core.Path.{_≡_, refl, ap, _∙_}
 use mathlib.Core.Bool.{Bool, true, false}

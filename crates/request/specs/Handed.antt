@@ -7,14 +7,14 @@ use mathlib.Core.Path.{_≡_, ap, sym, _∙_}
 use mathlib.Core.Logic.{inl, inr, ⊎-elim}
 use lib.Pow.{pow-lt}
 use Rattle.choice.specs.Choice.{le?}
-use Rattle.align.specs.Align.{Power, power-pos}
+use Rattle.align.specs.Align.{Power}
 use Rattle.definition.specs.Calls.{place}
 use Rattle.definition.specs.Units.{multiple as multipleOf}
-use Rattle.invariants.specs.Placing.{Align, align-pos, place-aligned, place-some, place-most}
+use Rattle.invariants.specs.Placing.{align-pos, place-aligned, place-some, place-most}
 use Rattle.request.specs.declared.Payload.{Payload}
 use Rattle.request.specs.declared.Payload.the-variants.{At, Unsuited, NoKind}
 use Rattle.request.specs.Alignment.{Alignment, pow-split, divides-times, multiple-align, multiple-bytes}
-use Rattle.request.specs.Returned.{Small, Large, OfKind, Suits, Returned, large-divides}
+use Rattle.request.specs.Returned.{Large, OfKind, Suits, Returned, large-divides}
 
 -- the payload's number, for an alignment in bytes
 abbrev pub handed : ℕ → ℕ → ℕ

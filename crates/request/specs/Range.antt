@@ -1,8 +1,8 @@
 -- What a request in range leaves room for: its numbers meet what the functions that take them require, so that a call
 -- which asked once tests nothing again.
-use Prim.Native.Nat.{ℕ, _+_, _*_, _^_, _≤_, _<_}
+use Prim.Native.Nat.{ℕ, _+_, _^_, _<_}
 use native.Mathlib.Omega.{arith}
-use mathlib.Core.Path.{_≡_, subst, sym}
+use mathlib.Core.Path.{subst, sym}
 use Rattle.align.specs.Align.{Power}
 use Rattle.definition.specs.Calls.{place}
 use Rattle.invariants.specs.Placing.{Align, align-pos, place-most}

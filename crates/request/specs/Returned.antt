@@ -1,7 +1,7 @@
 -- A payload that is given back, by its offset x in bytes and an alignment a. The offset is of the small kind, 16 more
 -- than a multiple of 32, or of the large kind, a multiple of 32, or of none. The alignment has to suit it: first that
 -- is seen to, and then the offset's kind.
-use Prim.Native.Nat.{ℕ, _+_, _-_, _*_, _/_, _%_, _^_, _≤_, _<_}
+use Prim.Native.Nat.{ℕ, _-_, _*_, _/_, _%_, _^_, _≤_, _<_}
 use native.Mathlib.Nat.{div-add-mod'}
 use native.Mathlib.Omega.{arith}
 use mathlib.Core.Path.{_≡_, refl, ap, sym, _∙_}
