@@ -2,14 +2,14 @@
 -- the script. `Passed` is what holds behind each entry; each law below is one step of the loop or one of its ends.
 use Prim.Native.Nat.{ℕ, suc, _+_, _-_, _*_, _≤_, _<_}
 use native.Mathlib.Omega.{arith}
-use mathlib.Core.Path.{_≡_, refl, ap, sym, _∙_}
+use mathlib.Core.Path.{_≡_, ap, sym, _∙_}
 use mathlib.Core.Bool.{Bool, true, false}
 use mathlib.Core.List.{List}
 use mathlib.Core.Logic.{⊎-elim}
 use Rattle.choice.specs.Choice.{ifEq, ifLe, le-yes, le-no, le?}
 use Rattle.table.specs.Table.{entry}
 use Rattle.script.specs.Memory.{Memory, Table}
-use Rattle.script.specs.Script.{Script, Result, ok, no, run, done, unlessLe, Gives, goes, halts, reads, gives-done, gives-le, halts-le}
+use Rattle.script.specs.Script.{Result, ok, no, run, done, unlessLe, Gives, goes, halts, reads, gives-done, gives-le, halts-le}
 use Rattle.sound.specs.RegionPlan.{Looked, wrongOf, seeRegions}
 use Rattle.region.specs.declared.Findings.{Findings}
 

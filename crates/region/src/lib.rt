@@ -8,6 +8,17 @@ ghost use Rattle.choice.specs.Says.{Says};
 ghost use Rattle.table.specs.Table.{entry};
 ghost use Rattle.sound.specs.RegionPlan.{wrongOf};
 ghost use Rattle.region.specs.Look.{Overlap, LookedThrough};
+ghost use Rattle.region.specs.Admit.{Answered, AnsweredBeside};
+
+// Answers: the table holds no more regions; the region is not one that can be given; the table can't be right.
+const FULL: usize = 6;
+
+const MISPLACED: usize = 4;
+
+const DAMAGED: usize = 5;
+
+// No refusal: the region can be laid out.
+const ADMITTED: usize = 0;
 
 // What the table says of a new region.
 pub struct Findings {
@@ -17,6 +28,50 @@ pub struct Findings {
     pub meets: usize,
     // 1 where an entry can't be right
     pub wrong: usize,
+}
+
+// Whether len grains from g on can be given, in an arena of n: 0, or the refusal. With `behind` 1 the region must begin where
+// another ended.
+pub fn admit(regions: &[u64], behind: usize, n: usize, g: usize, len: usize) -> usize
+    requires { ⌜ 1 ≤ length (now regions) ⌝ }
+    ensures { λ r. ⌜ Answered (now (regions .entry)) behind n g len r ⌝ }
+{
+    let count = number(regions, 0);
+    let most = (regions.len() - 1) / 2;
+    if count == most {
+        return FULL;
+    }
+    if len < 2 {
+        return MISPLACED;
+    }
+    if n < g {
+        return MISPLACED;
+    }
+    if n - g < len {
+        return MISPLACED;
+    }
+    if most < count {
+        return DAMAGED;
+    }
+    admit_beside(regions, behind, n, g, len)
+}
+
+// The same, where the region is inside the arena and the table has room for it: the other regions are looked at.
+fn admit_beside(regions: &[u64], behind: usize, n: usize, g: usize, len: usize) -> usize
+    requires { ⌜ (2 * entry (now regions) 0 + 1 ≤ length (now regions)) × (g + len ≤ n) ⌝ }
+    ensures { λ r. ⌜ AnsweredBeside (now (regions .entry)) behind n g len r ⌝ }
+{
+    let found = look(regions, n, g, len, number(regions, 0));
+    if !found.clear {
+        return MISPLACED;
+    }
+    if found.meets < behind {
+        return MISPLACED;
+    }
+    if found.wrong != 0 {
+        return DAMAGED;
+    }
+    ADMITTED
 }
 
 // The first `count` entries of the table, for a new region of len grains from g on, in an arena of n.
