@@ -3,9 +3,8 @@ use Prim.Native.Nat.{ℕ, zero, suc, _+_, _-_, _*_, _/_, _%_, _≤_, _<_}
 use native.Mathlib.Omega.{arith}
 use mathlib.Core.Path.{_≡_, refl, ap, sym, _∙_}
 use mathlib.Core.List.{List}
-use mathlib.Core.Logic.{⊎-elim}
 use lib.ListN.{length}
-use Rattle.choice.specs.Choice.{ifEq, ifLe, eq-yes, eq-no, le-yes, le-no, le?}
+use Rattle.choice.specs.Choice.{ifEq, ifLe, eq-yes, eq-no, le-yes, le-no}
 use Rattle.word.specs.Word.{wordAt}
 use Rattle.bits.specs.TableBit.{tableBit}
 use Rattle.script.specs.Memory.{Memory, Size, Before, Prev, Live}
@@ -16,8 +15,8 @@ use Rattle.slices.specs.Arena.{sizeAt, linkAt, size-inside, link-in}
 use Rattle.slices.specs.Slices.{memory-size, memory-prev, memory-live}
 use Rattle.header.specs.Turned.{turned}
 use Rattle.header.specs.Told.{usedOf}
-use Rattle.free_list.specs.Lent.{lent, link, link-grain, link-past}
-use Rattle.neighbours.specs.Shown.{held, before-read, shownGrain}
+use Rattle.free_list.specs.Lent.{lent, link, link-grain}
+use Rattle.neighbours.specs.Shown.{held, before-read, link-from, shownGrain}
 
 -- ---- the grain of the block
 
@@ -60,13 +59,7 @@ module _ (a l v t : List ℕ) (q : ℕ) (i : q < 2 * grains 8 a) where
       own-link = memory-prev 8 (lent a l v t) (q / 2 - 1) ∙ link-in 8 a (q / 2 - 1) Prev wrongLink (omega arith) ∙ ap (link a) (sym e)
 
       pub block-past : q / 2 ≤ x → shownGrain (grains 8 a) n ≡ run (held a l v t) (blockOf q)
-      block-past h = shown-out (grains 8 a) n (omega arith) ∙ sym (block-out (held a l v t) q ne (rw own-link (past h)))
-        where
-          past : q / 2 ≤ x → q / 2 ≤ link a w
-          past h = ⊎-elim
-              (λ (o : grains 8 a ≤ turned w). omega (arith, link-past a w s o))
-              (λ (o : turned w < grains 8 a). omega (arith, link-grain a w s o))
-              (le? (grains 8 a) (turned w))
+      block-past h = shown-out (grains 8 a) n (omega arith) ∙ sym (block-out (held a l v t) q ne (rw own-link (link-from a w (q / 2) s (omega arith) (omega arith))))
 
       pub block-before : x < q / 2 → shownGrain (grains 8 a) x ≡ run (held a l v t) (blockOf q)
       block-before h =
@@ -98,15 +91,15 @@ used-none m n g (isUsed s) i h = absurd (omega (arith, i .0))
 used-none m n g isLast i h = runs-stop m 5
 used-none m n g isBad i h = runs-stop m 5
 
--- a used block at x, of s grains, has a grain of the arena behind it
-pub used-inside : (a : List ℕ) (x s : ℕ) → s ≡ usedOf (wordOf (sizeAt 8 a x)) → (s ≡ 0 → ⊥) → x + s < grains 8 a
-used-inside a x s e ne = go (wordOf (sizeAt 8 a x)) e (size-inside 8 a x)
+-- s grains from x on, in use or none, end before the arena's end
+pub used-inside : (a : List ℕ) (x s : ℕ) → x < grains 8 a → s ≡ usedOf (wordOf (sizeAt 8 a x)) → x + s < grains 8 a
+used-inside a x s h e = go (wordOf (sizeAt 8 a x)) e (size-inside 8 a x)
   where
     go : (w : Word) → s ≡ usedOf w → Inside (grains 8 a) x w → x + s < grains 8 a
-    go (isFree u) e i = absurd (ne e)
+    go (isFree u) e i = omega arith
     go (isUsed u) e i = omega (arith, i .1)
-    go isLast e i = absurd (ne e)
-    go isBad e i = absurd (ne e)
+    go isLast e i = omega arith
+    go isBad e i = omega arith
 
 module _ (a l v t : List ℕ) (q : ℕ) where
   -- no payload is live there

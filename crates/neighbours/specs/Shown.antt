@@ -1,35 +1,81 @@
--- The code's answers as the scripts give them: a refusal that is not 0, or what was found.
-use Prim.Native.Nat.{ℕ, zero, suc, _≤_, _<_}
-use mathlib.Core.Path.{_≡_, sym, _∙_}
-use Rattle.choice.specs.Choice.{ifLe}
+-- The code's answers as the scripts give them, and the slices that were lent as the scripts read them.
+use Prim.Native.Nat.{ℕ, zero, suc, _+_, _*_, _≤_, _<_}
+use native.Mathlib.Omega.{arith}
+use mathlib.Core.Path.{_≡_, refl, ap, sym, _∙_}
+use mathlib.Core.Bool.{Bool, true, false}
 use mathlib.Core.List.{List}
+use mathlib.Core.Logic.{⊎-elim}
+use lib.ListN.{length}
+use Rattle.choice.specs.Choice.{ifLe, le?}
+use Rattle.word.specs.Word.{wordAt}
+use Rattle.bits.specs.Map.{mapWords, lists}
 use Rattle.script.specs.Memory.{Memory, Before}
-use Rattle.slices.specs.Slices.{memoryOf, memory-before}
+use Rattle.script.specs.Script.{Result, ok, no}
+use Rattle.sound.specs.Checks.{Entry, Owner, Beside, nobody, somebody}
 use Rattle.slices.specs.Decode.{grains, wrongLink}
 use Rattle.slices.specs.Arena.{linkAt, link-in}
-use Rattle.free_list.specs.Lent.{lent}
-use Rattle.script.specs.Script.{Result, ok, no}
-use Rattle.sound.specs.Checks.{Owner}
-use Rattle.neighbours.specs.declared.Owner.{Owner as Answer}
+use Rattle.slices.specs.Slices.{memoryOf, memory-before}
+use Rattle.header.specs.Turned.{turned}
+use Rattle.free_list.specs.Lent.{lent, noLink, link, link-grain, link-past}
+use Rattle.free_list.specs.Back.{answer}
+use Rattle.neighbours.specs.declared.Owner.{Owner as OwnerAnswer}
+use Rattle.neighbours.specs.declared.Beside.{Beside as BesideAnswer}
 
 -- the memory of the lent slices
 abbrev pub held : List ℕ → List ℕ → List ℕ → List ℕ → Memory
 held a l v t = memoryOf 8 (lent a l v t)
+
+-- the table of the lists has a place for each head
+abbrev pub Long : List ℕ → Type 0
+Long l = mapWords + lists ≤ length l
+
+-- ---- the owner of a payload
 
 -- refused, unless with 0
 abbrev pub unless : {A : Type 0} → ℕ → A → Result A
 unless zero x = ok x
 unless (suc r) x = no (suc r)
 
-abbrev pub shownOwner : Answer → Result Owner
+abbrev pub refusal : ℕ → OwnerAnswer
+refusal r = record { refusal = r; at = 0; grains = 0 }
+
+abbrev pub shownOwner : OwnerAnswer → Result Owner
 shownOwner r = unless (r .refusal) (record { at = r .at; grains = r .grains })
 
 -- a grain of an arena of n; from there on the records contradict each other
 abbrev pub shownGrain : ℕ → ℕ → Result ℕ
 shownGrain n x = ifLe (suc x) n (ok x) (no 5)
 
+-- ---- a block beside a used one
+
+-- nobody has no grains
+abbrev pub someone : ℕ → Entry → Beside
+someone zero e = nobody
+someone (suc t) e = somebody (suc t) e
+
+abbrev pub alone : Bool → BesideAnswer
+alone b = record { ok = b; grains = 0; next = noLink; prev = noLink }
+
+abbrev pub shownBeside : List ℕ → BesideAnswer → Result Beside
+shownBeside a r = answer (r .ok) (someone (r .grains) (record { next = link a (r .next); prev = link a (r .prev) }))
+
+pub someone-is : (t : ℕ) (e : Entry) → 1 ≤ t → someone t e ≡ somebody t e
+someone-is zero e h = absurd (omega arith)
+someone-is (suc t) e h = refl
+
 -- ---- what is read
 
--- the block before the one at g
-pub before-read : (a l v t : List ℕ) (g : ℕ) → g < grains 8 a → held a l v t Before g ≡ linkAt 8 a Before 0 g
-before-read a l v t g i = memory-before 8 (lent a l v t) g ∙ link-in 8 a g Before wrongLink i ∙ sym (link-in 8 a g Before 0 i)
+module _ (a l v t : List ℕ) (g : ℕ) (i : g < grains 8 a) where
+  -- where the grain g says the block before it is
+  pub before-read : held a l v t Before g ≡ linkAt 8 a Before 0 g
+  before-read = memory-before 8 (lent a l v t) g ∙ link-in 8 a g Before wrongLink i ∙ sym (link-in 8 a g Before 0 i)
+
+  pub before-link : (w : ℕ) → w ≡ wordAt 8 a (4 * g + Before) → held a l v t Before g ≡ link a w
+  before-link w e = memory-before 8 (lent a l v t) g ∙ link-in 8 a g Before wrongLink i ∙ ap (link a) (sym e)
+
+-- a word that leads to no grain before x
+pub link-from : (a : List ℕ) (w x : ℕ) → length a < 18446744073709551616 → x < grains 8 a → x ≤ turned w → x ≤ link a w
+link-from a w x s i h = ⊎-elim
+    (λ (o : grains 8 a ≤ turned w). omega (arith, link-past a w s o))
+    (λ (o : turned w < grains 8 a). omega (arith, link-grain a w s o))
+    (le? (grains 8 a) (turned w))

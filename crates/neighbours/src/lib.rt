@@ -5,14 +5,21 @@ ghost use mathlib.Core.List.{List};
 ghost use Prim.Native.Nat.{ℕ, _+_, _*_, _≤_, _<_};
 ghost use lib.ListN.{length};
 ghost use Rattle.script.specs.Script.{run};
-ghost use Rattle.sound.specs.Checks.{blockOf, seeOwner};
+ghost use Rattle.sound.specs.Checks.{blockOf, seeOwner, seeBehind, seeBefore};
 ghost use Rattle.slices.specs.Decode.{grains};
-ghost use Rattle.neighbours.specs.Shown.{held, shownGrain, shownOwner};
+ghost use Rattle.neighbours.specs.Shown.{held, Long, shownGrain, refusal, shownOwner, alone, shownBeside};
+ghost use Rattle.neighbours.specs.Beside.{seeListed};
 
 // The fields of a header that say which block is before, and before a payload at a grain which block is its own.
 const BEFORE: usize = 1;
 
 const PREV: usize = 3;
+
+// A link that leads nowhere.
+const NONE: u64 = 18446744073709551615;
+
+// How many lists there are.
+const LISTS: usize = 192;
 
 // No such payload is live.
 const NOT_LIVE: u64 = 3;
@@ -27,6 +34,35 @@ pub struct Owner {
     pub refusal: u64,
     pub at: usize,
     pub grains: usize,
+}
+
+// The used block whose live payload is at q, counted in half grains.
+pub fn see_owner(a: &[u8], live: &[u64], q: usize) -> Owner
+    requires { ⌜ (q < 64 * length (now live)) × (q < 2 * grains 8 (now a)) ⌝ }
+    ensures { λ r. ⌜ ((l t : List ℕ) → shownOwner r ≡ run (held (now (a .entry)) l (now (live .entry)) t) (seeOwner q)) ⌝ }
+{
+    if bits::table_bit(live, q) != 1 {
+        return refused(NOT_LIVE);
+    }
+    let x = block_of(a, q);
+    if header::count(a) <= x {
+        return refused(DAMAGED);
+    }
+    let s = header::used_at(a, x);
+    if s == 0 {
+        return refused(DAMAGED);
+    }
+    if 2 * (x + s) < q {
+        return refused(DAMAGED);
+    }
+    if !header::leads(a, x + s, BEFORE, x) {
+        return refused(DAMAGED);
+    }
+    Owner {
+        refusal: 0,
+        at: x,
+        grains: s,
+    }
 }
 
 // The grain of the block whose payload is at q, half a grain before it or as the word before it says; the arena's end where
@@ -49,51 +85,92 @@ fn block_of(a: &[u8], q: usize) -> usize
     x
 }
 
-// The used block whose live payload is at q, counted in half grains.
-pub fn see_owner(a: &[u8], live: &[u64], q: usize) -> Owner
-    requires { ⌜ (q < 64 * length (now live)) × (q < 2 * grains 8 (now a)) ⌝ }
-    ensures { λ r. ⌜ ((l t : List ℕ) → shownOwner r ≡ run (held (now (a .entry)) l (now (live .entry)) t) (seeOwner q)) ⌝ }
+fn refused(why: u64) -> Owner
+    ensures { λ r. ⌜ r ≡ refusal why ⌝ }
 {
-    if bits::table_bit(live, q) != 1 {
-        return Owner {
-            refusal: NOT_LIVE,
-            at: 0,
-            grains: 0,
-        };
-    }
-    let x = block_of(a, q);
-    if header::count(a) <= x {
-        return Owner {
-            refusal: DAMAGED,
-            at: 0,
-            grains: 0,
-        };
-    }
-    let s = header::used_at(a, x);
-    if s == 0 {
-        return Owner {
-            refusal: DAMAGED,
-            at: 0,
-            grains: 0,
-        };
-    }
-    if 2 * (x + s) < q {
-        return Owner {
-            refusal: DAMAGED,
-            at: 0,
-            grains: 0,
-        };
-    }
-    if !header::leads(a, x + s, BEFORE, x) {
-        return Owner {
-            refusal: DAMAGED,
-            at: 0,
-            grains: 0,
-        };
-    }
     Owner {
-        refusal: 0,
-        at: x,
-        grains: s,
+        refusal: why,
+        at: 0,
+        grains: 0,
+    }
+}
+
+// ---- the blocks beside a used one
+
+// A free block with its links, or nobody, which has no grains; and whether all that is there agrees.
+pub struct Beside {
+    pub ok: bool,
+    pub grains: usize,
+    pub next: u64,
+    pub prev: u64,
+}
+
+// What stands at y, behind a used block.
+pub fn see_behind(a: &[u8], lists: &[u64], y: usize) -> Beside
+    requires { ⌜ (y < grains 8 (now a)) × Long (now lists) ⌝ }
+    ensures { λ r. ⌜ ((v t : List ℕ) → shownBeside (now (a .entry)) r ≡ run (held (now (a .entry)) (now (lists .entry)) v t) (seeBehind (grains 8 (now (a .entry))) 12 y)) ⌝ }
+{
+    let t = header::free_at(a, y);
+    if t == 0 {
+        return nobody(header::is_busy(a, y));
+    }
+    if !header::is_busy(a, y + t) {
+        return nobody(false);
+    }
+    if !header::leads(a, y + t, BEFORE, y) {
+        return nobody(false);
+    }
+    see_listed(a, lists, t, y)
+}
+
+// What stands before the block at x.
+pub fn see_before(a: &[u8], lists: &[u64], x: usize) -> Beside
+    requires { ⌜ (x < grains 8 (now a)) × Long (now lists) ⌝ }
+    ensures { λ r. ⌜ ((v t : List ℕ) → shownBeside (now (a .entry)) r ≡ run (held (now (a .entry)) (now (lists .entry)) v t) (seeBefore (grains 8 (now (a .entry))) 12 x)) ⌝ }
+{
+    let word = header::field(a, x, BEFORE);
+    if word == NONE {
+        return nobody(true);
+    }
+    let z = header::grain_of(word);
+    if x <= z {
+        return nobody(false);
+    }
+    let t = header::free_at(a, z);
+    if t == 0 {
+        return nobody(z + header::used_at(a, z) == x);
+    }
+    if z + t != x {
+        return nobody(false);
+    }
+    see_listed(a, lists, t, z)
+}
+
+// The free block of t grains at y, in the list of its size.
+fn see_listed(a: &[u8], lists: &[u64], t: usize, y: usize) -> Beside
+    requires { ⌜ (y < grains 8 (now a)) × Long (now lists) × (1 ≤ t) × (t < grains 8 (now a)) ⌝ }
+    ensures { λ r. ⌜ ((v u : List ℕ) → shownBeside (now (a .entry)) r ≡ run (held (now (a .entry)) (now (lists .entry)) v u) (seeListed (grains 8 (now (a .entry))) t y)) ⌝ }
+{
+    let k = class::map_floor(t as u64) as usize;
+    if LISTS <= k {
+        return nobody(false);
+    }
+    let e = free_list::see_entry(a, lists, k, y);
+    Beside {
+        ok: e.ok,
+        grains: t,
+        next: e.next,
+        prev: e.prev,
+    }
+}
+
+fn nobody(ok: bool) -> Beside
+    ensures { λ r. ⌜ r ≡ alone ok ⌝ }
+{
+    Beside {
+        ok,
+        grains: 0,
+        next: NONE,
+        prev: NONE,
     }
 }

@@ -1,0 +1,38 @@
+-- `neighbours::see_listed`: the list of the size is known, or there is none, and the list says the rest.
+use native.Mathlib.Omega.{arith}
+use mathlib.Core.Path.{ap, _∙_}
+use Rattle.header.specs.Turned.{grains-few}
+use Rattle.neighbours.specs.Shown.{shownBeside}
+use Rattle.neighbours.specs.Beside.{listed-none, listed-entry}
+use borrow.Author.Needs.{needs}
+use Rattle.neighbours.proofs.see_listed.Statement.{statement}
+use Rattle.neighbours.proofs.see_listed.Tie as tie
+
+map-floor-requires : tie.Need-map-floor-requires
+map-floor-requires c κs =
+    let s = c .before .before in
+    (s .pre .2, omega (arith, grains-few (s .args .a .now) (s .good .0 .0)))
+
+nobody-requires : tie.Need-nobody-requires
+nobody-requires c κs = search needs
+
+returns : tie.Need-returns
+returns c v u =
+    let k = c .before .before in
+    let s = k .before .before .before .args in
+    ap (shownBeside (s .a .now)) (c .nobody .ensures)
+    ∙ listed-none (s .a .now) (s .lists .now) v u (s .t) (s .y) (k .map-floor .result) (k .map-floor .ensures) (c .before .if1 .taken)
+
+see-entry-requires : tie.Need-see-entry-requires
+see-entry-requires c κs = search needs
+
+returns-2 : tie.Need-returns-2
+returns-2 c v u =
+    let k = c .before .before in
+    let s = k .before .before .before in
+    listed-entry (s .args .a .now) (s .args .lists .now) v u (s .args .t) (s .args .y) (k .map-floor .result) (k .map-floor .ensures) (c .before .if1 .left)
+    (s .pre .2) (c .see-entry .result) (c .see-entry .ensures v u)
+
+pub see-listed-spec : {M : Type 1} → statement M
+see-listed-spec =
+    tie.close (tie.spec map-floor-requires nobody-requires returns see-entry-requires returns-2)
