@@ -1,10 +1,170 @@
-// The return of a block: its plan, and what is written.
+// The return of a block: its plan, which is read off the lent slices and checked before anything is written. A free
+// neighbour leaves its list, and the joined block goes to the head of the list of its size.
 ghost use mathlib.Core.Path.{_≡_};
-ghost use Prim.Native.Nat.{_+_, _*_, _≤_, _<_};
+ghost use mathlib.Core.List.{List};
+ghost use Prim.Native.Nat.{ℕ, _+_, _*_, _≤_, _<_};
+ghost use lib.ListN.{length};
+ghost use Rattle.script.specs.Script.{run};
+ghost use Rattle.sound.specs.Plans.{joinScript, giveBackScript};
+ghost use Rattle.slices.specs.Decode.{grains};
+ghost use Rattle.neighbours.specs.Shown.{held, Long};
 ghost use Rattle.deallocate.specs.After.{relinked, headed};
+ghost use Rattle.deallocate.specs.Shown.{bothLeaving, shown, Known, Able, mergeScript, listed};
 
 // A link that leads nowhere.
 const NONE: u64 = 18446744073709551615;
+
+// How many lists there are.
+const LISTS: usize = 192;
+
+// The records contradict each other.
+const DAMAGED: u64 = 5;
+
+// A free neighbour that leaves its list, where it is before one block and behind another; nobody has no grains.
+pub struct Neighbour {
+    pub grains: usize,
+    pub list: usize,
+    pub next: u64,
+    pub prev: u64,
+}
+
+// Why the call is refused, unless with 0; the joined block, the neighbours that leave, in this order, and the list to which
+// it goes, with the head that it is put before.
+pub struct Plan {
+    pub refusal: u64,
+    pub at: usize,
+    pub grains: usize,
+    pub behind: Neighbour,
+    pub before: Neighbour,
+    pub list: usize,
+    pub head: u64,
+}
+
+// ---- the plan
+
+// The payload at q, counted in half grains, is returned.
+pub fn plan_back(a: &[u8], lists: &[u64], live: &[u64], q: usize) -> Plan
+    requires { ⌜ (q < 64 * length (now live)) × (q < 2 * grains 8 (now a)) × Long (now lists) ⌝ }
+    ensures { λ r. ⌜ ((t : List ℕ) → shown (now (a .entry)) q r ≡ run (held (now (a .entry)) (now (lists .entry)) (now (live .entry)) t) (giveBackScript (grains 8 (now (a .entry))) 12 q)) × (r .refusal ≡ 0 → Able (now (a .entry)) r) ⌝ }
+{
+    let o = neighbours::see_owner(a, live, q);
+    if o.refusal != 0 {
+        return refused(o.refusal);
+    }
+    plan_merge(a, lists, o.at, o.grains)
+}
+
+// The used block of s grains at x is joined with its free neighbours.
+fn plan_merge(a: &[u8], lists: &[u64], x: usize, s: usize) -> Plan
+    requires { ⌜ (1 ≤ s) × (x + s < grains 8 (now a)) × Long (now lists) ⌝ }
+    ensures { λ r. ⌜ ((q : ℕ) (v t : List ℕ) → shown (now (a .entry)) q r ≡ run (held (now (a .entry)) (now (lists .entry)) v t) (mergeScript (grains 8 (now (a .entry))) q x s)) × (r .refusal ≡ 0 → Able (now (a .entry)) r) ⌝ }
+{
+    let e = neighbours::see_behind(a, lists, x + s);
+    if !e.ok {
+        return refused(DAMAGED);
+    }
+    let f = neighbours::see_before(a, lists, x);
+    if !f.ok {
+        return refused(DAMAGED);
+    }
+    let z = x - f.grains;
+    let behind = Neighbour {
+        grains: e.grains,
+        list: list_of(e.grains),
+        next: e.next,
+        prev: e.prev,
+    };
+    let before = Neighbour {
+        grains: f.grains,
+        list: list_of(f.grains),
+        next: after(e.grains, e.prev, z, e.next, f.next),
+        prev: after(e.grains, e.next, z, e.prev, f.prev),
+    };
+    plan_join(a, lists, z, f.grains + (s + e.grains), behind, before)
+}
+
+// The joined block of t grains at z goes to its list, after both neighbours left.
+fn plan_join(
+    a: &[u8],
+    lists: &[u64],
+    z: usize,
+    t: usize,
+    behind: Neighbour,
+    before: Neighbour,
+) -> Plan
+    requires { ⌜ (1 ≤ t) × (z + t < grains 8 (now a)) × Long (now lists) × Known (now a) behind × Known (now a) before ⌝ }
+    ensures { λ r. ⌜ ((q : ℕ) (v u : List ℕ) → shown (now (a .entry)) q r ≡ run (held (now (a .entry)) (now (lists .entry)) v u) (joinScript (grains 8 (now (a .entry))) 12 q z t (bothLeaving (now (a .entry)) behind before))) × (r .refusal ≡ 0 → Able (now (a .entry)) r) ⌝ }
+{
+    let list = class::map_floor(t as u64) as usize;
+    if LISTS <= list {
+        return refused(DAMAGED);
+    }
+    let h = free_list::see_head(a, lists, list);
+    if !h.ok {
+        return refused(DAMAGED);
+    }
+    let first = head_after(
+        behind.grains,
+        behind.list,
+        behind.next,
+        behind.prev,
+        list,
+        h.word,
+    );
+    let head = head_after(
+        before.grains,
+        before.list,
+        before.next,
+        before.prev,
+        list,
+        first,
+    );
+    Plan {
+        refusal: 0,
+        at: z,
+        grains: t,
+        behind,
+        before,
+        list,
+        head,
+    }
+}
+
+fn refused(why: u64) -> Plan
+    ensures { λ r. ⌜ r .refusal ≡ why ⌝ }
+{
+    Plan {
+        refusal: why,
+        at: 0,
+        grains: 0,
+        behind: nobody(),
+        before: nobody(),
+        list: 0,
+        head: NONE,
+    }
+}
+
+fn nobody() -> Neighbour
+    ensures { λ r. ⌜ r .grains ≡ 0 ⌝ }
+{
+    Neighbour {
+        grains: 0,
+        list: 0,
+        next: NONE,
+        prev: NONE,
+    }
+}
+
+// The list of a neighbour of g grains, if there is one.
+fn list_of(g: usize) -> usize
+    requires { ⌜ g < 576460752303423488 ⌝ }
+    ensures { λ r. ⌜ r ≡ listed g ⌝ }
+{
+    if g == 0 {
+        return 0;
+    }
+    class::map_floor(g as u64) as usize
+}
 
 // ---- what the leaving of a neighbour changes
 
