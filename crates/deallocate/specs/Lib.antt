@@ -3,3 +3,4 @@ pub mod After
 pub mod Shown
 pub mod Within
 pub mod Join
+pub mod Written

@@ -1,15 +1,25 @@
 // The return of a block: its plan, which is read off the lent slices and checked before anything is written. A free
 // neighbour leaves its list, and the joined block goes to the head of the list of its size.
 ghost use mathlib.Core.Path.{_≡_};
-ghost use mathlib.Core.List.{List};
+ghost use mathlib.Core.List.{List, _++_};
 ghost use Prim.Native.Nat.{ℕ, _+_, _*_, _≤_, _<_};
 ghost use lib.ListN.{length};
 ghost use Rattle.script.specs.Script.{run};
 ghost use Rattle.sound.specs.Plans.{joinScript, giveBackScript};
 ghost use Rattle.slices.specs.Decode.{grains};
 ghost use Rattle.neighbours.specs.Shown.{held, Long};
+ghost use Rattle.bits.specs.Map.{lists as listCount};
+ghost use Rattle.sound.specs.Links.{pushWrites};
+ghost use Rattle.free_list.specs.Lent.{link, Leads};
+ghost use Rattle.free_list.specs.Written.{Written};
 ghost use Rattle.deallocate.specs.After.{relinked, headed};
-ghost use Rattle.deallocate.specs.Shown.{bothLeaving, shown, Known, Able, mergeScript, listed};
+ghost use Rattle.deallocate.specs.Shown.{bothLeaving, shown, Known, Able, mergeScript, listed, leavingOf, backWrites};
+ghost use Rattle.deallocate.specs.Written.{freed, Returned};
+
+// The fields of a header that say how large a block is, and which block is before.
+const SIZE: usize = 0;
+
+const BEFORE: usize = 1;
 
 // A link that leads nowhere.
 const NONE: u64 = 18446744073709551615;
@@ -197,4 +207,54 @@ fn head_after(g: usize, k: usize, x: u64, p: u64, j: usize, h: u64) -> u64
         return h;
     }
     x
+}
+
+// ---- what is written
+
+// What was planned for the payload at q.
+pub fn apply_back(a: &mut [u8], lists: &mut [u64], live: &mut [u64], q: usize, p: Plan)
+    requires { ⌜ Able (now a) p × Long (now lists) × (q < 64 * length (now live)) ⌝ }
+    ensures { λ r. ⌜ Returned (now (a .entry)) (now (lists .entry)) (now (live .entry)) (backWrites (now (a .entry)) q p) (now (a .exit)) (now (lists .exit)) (now (live .exit)) ⌝ }
+{
+    relist(a, lists, p.behind, p.before, p.list, p.at, p.head);
+    put_free(a, p.at, p.grains);
+    bits::clear_table_bit(live, q);
+}
+
+// Both neighbours leave, and the block at z goes to the head of list k, before h.
+fn relist(
+    a: &mut [u8],
+    lists: &mut [u64],
+    behind: Neighbour,
+    before: Neighbour,
+    k: usize,
+    z: usize,
+    h: u64,
+)
+    requires { ⌜ Known (now a) behind × Known (now a) before × (k < listCount) × Long (now lists) × (z < grains 8 (now a)) × Leads (now a) h ⌝ }
+    ensures { λ r. ⌜ Written (now (a .entry)) (now (lists .entry)) (bothLeaving (now (a .entry)) behind before ++ pushWrites k z (link (now (a .entry)) h)) (now (a .exit)) (now (lists .exit)) ⌝ }
+{
+    leave(a, lists, behind);
+    leave(a, lists, before);
+    free_list::push(a, lists, k, z, h);
+}
+
+// A neighbour leaves its list, if there is one.
+fn leave(a: &mut [u8], lists: &mut [u64], e: Neighbour)
+    requires { ⌜ Known (now a) e × Long (now lists) ⌝ }
+    ensures { λ r. ⌜ Written (now (a .entry)) (now (lists .entry)) (leavingOf (now (a .entry)) e) (now (a .exit)) (now (lists .exit)) ⌝ }
+{
+    if e.grains == 0 {
+        return;
+    }
+    free_list::unlink(a, lists, e.list, e.next, e.prev);
+}
+
+// A free block of t grains at z.
+fn put_free(a: &mut [u8], z: usize, t: usize)
+    requires { ⌜ z + t < grains 8 (now a) ⌝ }
+    ensures { λ r. ⌜ now (a .exit) ≡ freed (now (a .entry)) z t ⌝ }
+{
+    header::put_field(a, z, SIZE, header::bytes_of(t));
+    header::put_field(a, z + t, BEFORE, header::bytes_of(z));
 }
