@@ -1,0 +1,139 @@
+-- The steps of the script of a return, as the code takes them: at each return one law says what the script answers.
+use Prim.Native.Nat.{ℕ, zero, suc, _+_, _-_, _*_, _≤_, _<_}
+use native.Mathlib.Omega.{arith}
+use mathlib.Core.Path.{_≡_, refl, ap, sym, _∙_}
+use mathlib.Core.Bool.{Bool, true, false}
+use mathlib.Core.List.{List, [], _∷_, _++_}
+use lib.ListN.{length}
+use Rattle.class.specs.Class.{listOf}
+use Rattle.script.specs.Memory.{Memory, Next, Prev, root, Write, latest}
+use Rattle.script.specs.Script.{Script, Result, ok, no, run, _>>=_, goes, halts, gives-done, gives-le, halts-le}
+use Rattle.sound.specs.Checks.{Entry, Owner, Beside, nobody, somebody, mustList, seeHead, seeBehind, seeBefore, seeOwner}
+use Rattle.sound.specs.Links.{unlinkWrites, pushWrites}
+use Rattle.sound.specs.Plans.{Plan, roomOf, leaves, afterwards, bothLeave, freeWrites, joinScript, giveBackScript}
+use Rattle.slices.specs.Decode.{grains}
+use Rattle.free_list.specs.Lent.{link, Leads}
+use Rattle.free_list.specs.Back.{answer}
+use Rattle.free_list.specs.Seen.{shownHead}
+use Rattle.free_list.specs.declared.Head.{Head}
+use Rattle.neighbours.specs.Shown.{held, unless, shownOwner, someone, shownBeside}
+use Rattle.neighbours.specs.declared.Owner.{Owner as OwnerAnswer}
+use Rattle.neighbours.specs.declared.Beside.{Beside as BesideAnswer}
+use Rattle.deallocate.specs.declared.Neighbour.{Neighbour}
+use Rattle.deallocate.specs.After.{relinked, headed, leaving, latest-append, next-after, prev-after, head-after}
+use Rattle.deallocate.specs.Shown.{bothLeaving, leavingOf, Known, mergeScript, listed}
+
+-- ---- the list of the joined block, of g grains at z
+
+module _ (a l v t : List ℕ) (q z g k : ℕ) (w : List Write) (e : k ≡ listOf g) where
+  -- its size has no list
+  pub join-unlisted : 192 ≤ k → no 5 ≡ run (held a l v t) (joinScript (grains 8 a) 12 q z g w)
+  unfolding joinScript
+  join-unlisted h = let m = held a l v t in sym (halts m (mustList 12 g) _ (halts-le m 5 (suc (listOf g)) 192 (omega arith)))
+
+  module _ (h : k < 192) (r : Head) (f : shownHead a r ≡ run (held a l v t) (seeHead (grains 8 a) k)) where
+    join-listed : run (held a l v t) (joinScript (grains 8 a) 12 q z g w) ≡ run (held a l v t) (seeHead (grains 8 a) k >>= (λ h.
+        Script.done (record { answer = 0; moved = 0; writes = (w ++ pushWrites k z (latest w Next (root k) h)) ++ freeWrites q z g })))
+    unfolding joinScript
+    join-listed =
+        let m = held a l v t in
+        goes m (mustList 12 g) _ (gives-le m 5 (suc (listOf g)) 192 (omega arith))
+        ∙ ap (λ (i : ℕ). run m (seeHead (grains 8 a) i >>= (λ h. Script.done (record { answer = 0; moved = 0; writes = (w ++ pushWrites i z (latest w Next (root i) h)) ++ freeWrites q z g })))) (sym e)
+
+    -- what is beside its head doesn't agree
+    pub join-headless : r .ok ≡ false → no 5 ≡ run (held a l v t) (joinScript (grains 8 a) 12 q z g w)
+    join-headless o = sym (join-listed ∙ halts (held a l v t) (seeHead (grains 8 a) k) _ (sym f ∙ ap (λ (b : Bool). answer b (link a (r .word))) o))
+
+    -- all agrees
+    pub joined : r .ok ≡ true → (x : ℕ) → link a x ≡ latest w Next (root k) (link a (r .word))
+        → ok (record { answer = 0; moved = 0; writes = (w ++ pushWrites k z (link a x)) ++ freeWrites q z g }) ≡ run (held a l v t) (joinScript (grains 8 a) 12 q z g w)
+    joined o x d = sym (
+        join-listed ∙ goes (held a l v t) (seeHead (grains 8 a) k) _ (sym f ∙ ap (λ (b : Bool). answer b (link a (r .word))) o)
+        ∙ gives-done (held a l v t) _ ∙ ap (λ (y : ℕ). ok (record { answer = 0; moved = 0; writes = (w ++ pushWrites k z y) ++ freeWrites q z g })) (sym d))
+
+-- its head, when both neighbours left
+pub head-joined : (a : List ℕ) (e f : Neighbour) (k h u x : ℕ) → length a < 18446744073709551616 → Known a e → Known a f
+    → u ≡ headed (e .grains) (e .list) (e .next) (e .prev) k h → x ≡ headed (f .grains) (f .list) (f .next) (f .prev) k u
+    → link a x ≡ latest (bothLeaving a e f) Next (root k) (link a h)
+head-joined a e f k h u x s i j p q =
+    ap (link a) q ∙ head-after a (f .list) (f .next) (f .prev) s (f .grains) k u (λ n. j n .prev)
+    ∙ ap (latest (leavingOf a f) Next (root k)) (ap (link a) p ∙ head-after a (e .list) (e .next) (e .prev) s (e .grains) k h (λ n. i n .prev))
+    ∙ sym (latest-append (leavingOf a e) (leavingOf a f) Next (root k) (link a h))
+
+-- ---- the neighbours
+
+room-is : (g : ℕ) (e : Entry) → roomOf (someone g e) ≡ g
+room-is zero e = refl
+room-is (suc g) e = refl
+
+module _ (a : List ℕ) (k x p : ℕ) where
+  leaves-is : (g : ℕ) → k ≡ listed g → leaves (someone g (record { next = link a x; prev = link a p })) ≡ leaving a g k x p
+  unfolding listed
+  leaves-is zero e = refl
+  leaves-is (suc g) e = ap (λ (i : ℕ). unlinkWrites i (link a x) (link a p)) (sym e)
+
+  -- the second, after the writes w
+  after-is : (w : List Write) (z g : ℕ) (o : Entry) → k ≡ listed g → link a x ≡ latest w Next z (o .next) → link a p ≡ latest w Prev z (o .prev)
+      → leaves (afterwards w z (someone g o)) ≡ leaving a g k x p
+  unfolding listed
+  after-is w z zero o e f h = refl
+  after-is w z (suc g) o e f h =
+      ap (λ (i : ℕ). unlinkWrites i (latest w Next z (o .next)) (latest w Prev z (o .prev))) (sym e)
+      ∙ ap (λ (y : ℕ). unlinkWrites k y (latest w Prev z (o .prev))) (sym f) ∙ ap (unlinkWrites k (link a x)) (sym h)
+
+-- what was seen of a neighbour
+abbrev seenOf : List ℕ → BesideAnswer → Beside
+seenOf a r = someone (r .grains) (record { next = link a (r .next); prev = link a (r .prev) })
+
+-- both leave, the second from a list in which the first is no more
+both-leave : (a : List ℕ) (e f : BesideAnswer) (z i j y u : ℕ) → length a < 18446744073709551616 → z < grains 8 a → i ≡ listed (e .grains) → j ≡ listed (f .grains)
+    → y ≡ relinked (e .grains) (e .prev) (32 * z) (e .next) (f .next) → u ≡ relinked (e .grains) (e .next) (32 * z) (e .prev) (f .prev)
+    → bothLeave (seenOf a e) z (seenOf a f) ≡ leaving a (e .grains) i (e .next) (e .prev) ++ leaving a (f .grains) j y u
+both-leave a e f z i j y u s h p q c d =
+    let w = leaving a (e .grains) i (e .next) (e .prev) in
+    ap (λ (w : List Write). w ++ leaves (afterwards w z (seenOf a f))) (leaves-is a i (e .next) (e .prev) (e .grains) p)
+    ∙ ap (λ (o : List Write). w ++ o) (after-is a j y u w z (f .grains) (record { next = link a (f .next); prev = link a (f .prev) }) q
+    (ap (link a) c ∙ next-after a i (e .next) (e .prev) s (e .grains) z (f .next) h)
+    (ap (link a) d ∙ prev-after a i (e .next) (e .prev) s (e .grains) z (f .prev) h))
+
+module _ (a l v t : List ℕ) (q x s : ℕ) (e : BesideAnswer) (p : shownBeside a e ≡ run (held a l v t) (seeBehind (grains 8 a) 12 (x + s))) where
+  -- what is behind doesn't agree
+  pub merge-behind-out : e .ok ≡ false → no 5 ≡ run (held a l v t) (mergeScript (grains 8 a) q x s)
+  merge-behind-out o = sym (halts (held a l v t) (seeBehind (grains 8 a) 12 (x + s)) _ (sym p ∙ ap (λ (b : Bool). answer b (seenOf a e)) o))
+
+  module _ (o : e .ok ≡ true) (f : BesideAnswer) (d : shownBeside a f ≡ run (held a l v t) (seeBefore (grains 8 a) 12 x)) where
+    merge-behind : run (held a l v t) (mergeScript (grains 8 a) q x s) ≡ run (held a l v t) (seeBefore (grains 8 a) 12 x >>= (λ b.
+        joinScript (grains 8 a) 12 q (x - roomOf b) (roomOf b + (s + roomOf (seenOf a e))) (bothLeave (seenOf a e) (x - roomOf b) b)))
+    merge-behind = goes (held a l v t) (seeBehind (grains 8 a) 12 (x + s)) _ (sym p ∙ ap (λ (b : Bool). answer b (seenOf a e)) o)
+
+    -- what is before doesn't
+    pub merge-before-out : f .ok ≡ false → no 5 ≡ run (held a l v t) (mergeScript (grains 8 a) q x s)
+    merge-before-out c = sym (merge-behind ∙ halts (held a l v t) (seeBefore (grains 8 a) 12 x) _ (sym d ∙ ap (λ (b : Bool). answer b (seenOf a f)) c))
+
+    -- both do
+    pub merged : f .ok ≡ true → length a < 18446744073709551616 → x - f .grains < grains 8 a → (i j y u : ℕ) → i ≡ listed (e .grains) → j ≡ listed (f .grains)
+        → y ≡ relinked (e .grains) (e .prev) (32 * (x - f .grains)) (e .next) (f .next) → u ≡ relinked (e .grains) (e .next) (32 * (x - f .grains)) (e .prev) (f .prev)
+        → run (held a l v t) (joinScript (grains 8 a) 12 q (x - f .grains) (f .grains + (s + e .grains)) (leaving a (e .grains) i (e .next) (e .prev) ++ leaving a (f .grains) j y u))
+        ≡ run (held a l v t) (mergeScript (grains 8 a) q x s)
+    merged c few h i j y u g k n b = sym (
+        merge-behind ∙ goes (held a l v t) (seeBefore (grains 8 a) 12 x) _ (sym d ∙ ap (λ (b : Bool). answer b (seenOf a f)) c)
+        ∙ ap (λ (r : ℕ). run (held a l v t) (joinScript (grains 8 a) 12 q (x - r) (r + (s + roomOf (seenOf a e))) (bothLeave (seenOf a e) (x - r) (seenOf a f)))) (room-is (f .grains) _)
+        ∙ ap (λ (r : ℕ). run (held a l v t) (joinScript (grains 8 a) 12 q (x - f .grains) (f .grains + (s + r)) (bothLeave (seenOf a e) (x - f .grains) (seenOf a f)))) (room-is (e .grains) _)
+        ∙ ap (λ (w : List Write). run (held a l v t) (joinScript (grains 8 a) 12 q (x - f .grains) (f .grains + (s + e .grains)) w)) (both-leave a e f (x - f .grains) i j y u few h g k n b))
+
+-- ---- the owner
+
+module _ (a l v t : List ℕ) (q : ℕ) (r : OwnerAnswer) (p : shownOwner r ≡ run (held a l v t) (seeOwner q)) where
+  -- refused
+  pub back-refused : (r .refusal ≡ 0 → ⊥) → no (r .refusal) ≡ run (held a l v t) (giveBackScript (grains 8 a) 12 q)
+  unfolding giveBackScript
+  back-refused n = sym (halts (held a l v t) (seeOwner q) _ (sym p ∙ go (r .refusal) n))
+    where
+      go : (u : ℕ) → (u ≡ 0 → ⊥) → unless {A = Owner} u (record { at = r .at; grains = r .grains }) ≡ no u
+      go zero n = absurd (n refl)
+      go (suc u) n = refl
+
+  -- found
+  pub back-found : r .refusal ≡ 0 → run (held a l v t) (mergeScript (grains 8 a) q (r .at) (r .grains)) ≡ run (held a l v t) (giveBackScript (grains 8 a) 12 q)
+  unfolding giveBackScript
+  back-found e = sym (goes (held a l v t) (seeOwner q) _ (sym p ∙ ap (λ (u : ℕ). unless u (record { at = r .at; grains = r .grains })) e))

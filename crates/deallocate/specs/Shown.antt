@@ -1,0 +1,97 @@
+-- A plan of the code, as the script answers it: the writes, spelled from the plan's numbers; and what makes them possible.
+use Prim.Native.Nat.{ℕ, zero, suc, _+_, _-_, _≤_, _<_}
+use native.Mathlib.Omega.{arith}
+use mathlib.Core.Path.{_≡_, refl, ap, _∙_}
+use mathlib.Core.List.{List, _++_}
+use lib.ListN.{length}
+use Rattle.bits.specs.Map.{lists}
+use Rattle.class.specs.Class.{listOf}
+use Rattle.script.specs.Memory.{Write}
+use Rattle.script.specs.Script.{Script, Result, ok, no, _>>=_}
+use Rattle.sound.specs.Checks.{seeBehind, seeBefore}
+use Rattle.sound.specs.Links.{pushWrites}
+use Rattle.sound.specs.Plans.{Plan, roomOf, bothLeave, freeWrites, joinScript}
+use Rattle.slices.specs.Decode.{grains}
+use Rattle.free_list.specs.Lent.{link, Leads}
+use Rattle.neighbours.specs.Shown.{unless}
+use Rattle.deallocate.specs.declared.Neighbour.{Neighbour}
+use Rattle.deallocate.specs.declared.Plan.{Plan as PlanAnswer}
+use Rattle.deallocate.specs.After.{leaving}
+
+-- ---- the writes
+
+abbrev pub leavingOf : List ℕ → Neighbour → List Write
+leavingOf a e = leaving a (e .grains) (e .list) (e .next) (e .prev)
+
+abbrev pub bothLeaving : List ℕ → Neighbour → Neighbour → List Write
+bothLeaving a e f = leavingOf a e ++ leavingOf a f
+
+abbrev pub backWrites : List ℕ → ℕ → PlanAnswer → List Write
+backWrites a q r = (bothLeaving a (r .behind) (r .before) ++ pushWrites (r .list) (r .at) (link a (r .head))) ++ freeWrites q (r .at) (r .grains)
+
+-- the plan for the payload at q
+abbrev pub shown : List ℕ → ℕ → PlanAnswer → Result Plan
+shown a q r = unless (r .refusal) (record { answer = 0; moved = 0; writes = backWrites a q r })
+
+pub shown-refused : (a : List ℕ) (q w : ℕ) (r : PlanAnswer) → r .refusal ≡ w → (w ≡ 0 → ⊥) → shown a q r ≡ no w
+shown-refused a q w r e n = ap (λ (u : ℕ). unless u p) e ∙ go w n
+  where
+    p : Plan
+    p = record { answer = 0; moved = 0; writes = backWrites a q r }
+
+    go : (w : ℕ) → (w ≡ 0 → ⊥) → unless w p ≡ no w
+    go zero n = absurd (n refl)
+    go (suc w) n = refl
+
+pub shown-damaged : (a : List ℕ) (q : ℕ) (r : PlanAnswer) → r .refusal ≡ 5 → shown a q r ≡ no 5
+shown-damaged a q r e = shown-refused a q 5 r e (λ q. omega arith)
+
+-- ---- what is asked for writing them: lists that are there, links that lead
+
+pub record Linked (a : List ℕ) (e : Neighbour) : Type 0 where
+  pub list : e .list < lists
+  pub next : Leads a (e .next)
+  pub prev : Leads a (e .prev)
+
+-- where there is one
+abbrev pub Known : List ℕ → Neighbour → Type 0
+Known a e = (e .grains ≡ 0 → ⊥) → Linked a e
+
+pub record Able (a : List ℕ) (r : PlanAnswer) : Type 0 where
+  pub behind : Known a (r .behind)
+  pub before : Known a (r .before)
+  pub inside : r .at + r .grains < grains 8 a
+  pub list : r .list < lists
+  pub head : Leads a (r .head)
+
+-- nothing of a plan that was refused
+pub damaged-unable : (a : List ℕ) (r : PlanAnswer) → r .refusal ≡ 5 → r .refusal ≡ 0 → Able a r
+damaged-unable a r e f = absurd (omega arith)
+
+-- ---- the script behind the owner, a used block of s grains at x
+
+abbrev pub mergeScript : ℕ → ℕ → ℕ → ℕ → Script Plan
+mergeScript n q x s = do
+  a ← seeBehind n 12 (x + s)
+  b ← seeBefore n 12 x
+  joinScript n 12 q (x - roomOf b) (roomOf b + (s + roomOf a)) (bothLeave a (x - roomOf b) b)
+
+-- the list of a neighbour, if there is one
+unfoldable pub listed : ℕ → ℕ
+listed zero = 0
+listed (suc g) = listOf (suc g)
+
+pub listed-nobody : (g : ℕ) → g ≡ 0 → 0 ≡ listed g
+unfolding listed
+listed-nobody zero e = refl
+listed-nobody (suc g) e = absurd (omega arith)
+
+pub listed-some : (g k : ℕ) → (g ≡ 0 → ⊥) → k ≡ listOf g → k ≡ listed g
+unfolding listed
+listed-some zero k n e = absurd (n refl)
+listed-some (suc g) k n e = e
+
+pub listed-below : (g k : ℕ) → (g ≡ 0 → ⊥) → k ≡ listed g → listOf g < lists → k < lists
+unfolding listed
+listed-below zero k n e h = absurd (n refl)
+listed-below (suc g) k n e h = omega arith

@@ -1,0 +1,112 @@
+-- What was seen of the block that is returned, and of its neighbours, lies in the arena, and their links lead: so the joined
+-- block can be counted and all that is planned can be written.
+use Prim.Native.Nat.{ℕ, zero, suc, _+_, _*_, _≤_, _<_}
+use native.Mathlib.Omega.{arith}
+use mathlib.Core.Path.{_≡_, refl, ap, sym, _∙_, subst}
+use mathlib.Core.Bool.{Bool, true}
+use mathlib.Core.List.{List, []}
+use mathlib.Core.Logic.{inl, inr, ⊎-elim}
+use lib.ListN.{length}
+use Rattle.choice.specs.Choice.{ifEq, eq-case}
+use Rattle.class.specs.Class.{listOf}
+use Rattle.script.specs.Memory.{Memory, Size, Before}
+use Rattle.script.specs.Script.{run, Gives}
+use Rattle.sound.specs.Checks.{Word, isFree, isUsed, wordOf, Entry, Beside, nobody, somebody, seeBehind, seeBefore, seeOwner}
+use Rattle.sound.specs.Checked.{EntryChecked, BehindChecked, BeforeChecked, behind-checked, before-checked, owner-checked}
+use Rattle.slices.specs.Decode.{grains, Inside}
+use Rattle.slices.specs.Arena.{sizeAt, size-inside}
+use Rattle.slices.specs.Slices.{memory-size}
+use Rattle.free_list.specs.Lent.{lent, noLink, link, Leads}
+use Rattle.free_list.specs.Back.{answer}
+use Rattle.free_list.specs.Leading.{leads-valid}
+use Rattle.neighbours.specs.Shown.{held, unless, shownOwner, someone, shownBeside}
+use Rattle.neighbours.specs.declared.Owner.{Owner as OwnerAnswer}
+use Rattle.neighbours.specs.declared.Beside.{Beside as BesideAnswer}
+use Rattle.deallocate.specs.After.{relinked, headed}
+use Rattle.deallocate.specs.Shown.{Known, listed, listed-below}
+
+-- ---- the block
+
+module _ (a l v t : List ℕ) where
+  -- what the memory says a block is, lies in the arena
+  size-within : (g : ℕ) (w : Word) → wordOf (held a l v t Size g) ≡ w → Inside (grains 8 a) g w
+  size-within g w e = subst (Inside (grains 8 a) g) (ap wordOf (sym (memory-size 8 (lent a l v t) g)) ∙ e) (size-inside 8 a g)
+
+  pub owner-within : (q : ℕ) (r : OwnerAnswer) → shownOwner r ≡ run (held a l v t) (seeOwner q) → r .refusal ≡ 0 → (1 ≤ r .grains) × (r .at + r .grains < grains 8 a)
+  owner-within q r h e =
+      let c = owner-checked (held a l v t) q (record { at = r .at; grains = r .grains }) (sym h ∙ ap (λ (u : ℕ). unless u (record { at = r .at; grains = r .grains })) e) in
+      let i = size-within (r .at) (isUsed (r .grains)) (c .word) in
+      (i .0, omega (arith, i .1))
+
+-- ---- its neighbours
+
+-- what was seen of one of g grains: its list is there, and its links lead
+pub record Sighted (a : List ℕ) (r : BesideAnswer) : Type 0 where
+  pub list : listOf (r .grains) < 192
+  pub next : Leads a (r .next)
+  pub prev : Leads a (r .prev)
+
+module _ (a l v t : List ℕ) (s : length a < 18446744073709551616) where
+  sighted : (y g x p : ℕ) → listOf g < 192 → EntryChecked (grains 8 a) (held a l v t) (listOf g) y (record { next = link a x; prev = link a p })
+      → (b : Bool) → Sighted a (record { ok = b; grains = g; next = x; prev = p })
+  sighted y g x p k c b = record {
+    list = k;
+    next = leads-valid a x s (⊎-elim (λ q. inl q) (λ q. inr (q .0)) (c .back));
+    prev = leads-valid a p s (⊎-elim (λ q. inl (q .0)) (λ q. inr (q .2)) (c .head));
+  }
+
+  -- behind it
+  pub behind-within : (y : ℕ) (r : BesideAnswer) → y < grains 8 a → shownBeside a r ≡ run (held a l v t) (seeBehind (grains 8 a) 12 y) → r .ok ≡ true
+      → (y + r .grains < grains 8 a) × ((r .grains ≡ 0 → ⊥) → Sighted a r)
+  behind-within y r i h o = go (r .ok) (r .grains) (r .next) (r .prev) h o
+    where
+      go : (b : Bool) (g x p : ℕ) → answer b (someone g (record { next = link a x; prev = link a p })) ≡ run (held a l v t) (seeBehind (grains 8 a) 12 y) → b ≡ true
+          → (y + g < grains 8 a) × ((g ≡ 0 → ⊥) → Sighted a (record { ok = b; grains = g; next = x; prev = p }))
+      go b zero x p h o = (omega arith, λ n. absurd (n refl))
+      go b (suc g) x p h o =
+          let e : Entry = record { next = link a x; prev = link a p } in
+          let c = behind-checked (grains 8 a) 12 (held a l v t) y (somebody (suc g) e) (sym h ∙ ap (λ (d : Bool). answer d (somebody (suc g) e)) o) in
+          let j = size-within a l v t y (isFree (suc g)) (c .word) in
+          (omega (arith, j .1), λ _. sighted y (suc g) x p (c .list) (c .entry) b)
+
+  -- before it
+  pub before-within : (x : ℕ) (r : BesideAnswer) → shownBeside a r ≡ run (held a l v t) (seeBefore (grains 8 a) 12 x) → r .ok ≡ true
+      → (r .grains ≤ x) × ((r .grains ≡ 0 → ⊥) → Sighted a r)
+  before-within x r h o = go (r .ok) (r .grains) (r .next) (r .prev) h o
+    where
+      go : (b : Bool) (g y p : ℕ) → answer b (someone g (record { next = link a y; prev = link a p })) ≡ run (held a l v t) (seeBefore (grains 8 a) 12 x) → b ≡ true
+          → (g ≤ x) × ((g ≡ 0 → ⊥) → Sighted a (record { ok = b; grains = g; next = y; prev = p }))
+      go b zero y p h o = (omega arith, λ n. absurd (n refl))
+      go b (suc g) y p h o =
+          let e : Entry = record { next = link a y; prev = link a p } in
+          let c = before-checked (grains 8 a) 12 (held a l v t) x (somebody (suc g) e) (sym h ∙ ap (λ (d : Bool). answer d (somebody (suc g) e)) o) in
+          (omega (arith, c .meets), λ _. sighted (held a l v t Before x) (suc g) y p (c .list) (c .entry) b)
+
+-- ---- links that were chosen
+
+pub relinked-leads : (a : List ℕ) (g b k w v : ℕ) → ((g ≡ 0 → ⊥) → Leads a w) → Leads a v → Leads a (relinked g b k w v)
+unfolding relinked
+relinked-leads a zero b k w v f h = h
+relinked-leads a (suc g) b k w v f h = eq-case (Leads a) b k w v (λ _. f (λ e. omega arith)) (λ _. h)
+
+pub headed-leads : (a : List ℕ) (g k x p j h : ℕ) → ((g ≡ 0 → ⊥) → Leads a x) → Leads a h → Leads a (headed g k x p j h)
+unfolding headed
+headed-leads a zero k x p j h f i = i
+headed-leads a (suc g) k x p j h f i = eq-case (Leads a) p noLink (ifEq k j x h) h (λ _. eq-case (Leads a) k j x h (λ _. f (λ e. omega arith)) (λ _. i)) (λ _. i)
+
+-- ---- neighbours that can leave
+
+-- the first
+pub known-first : (a : List ℕ) (e : BesideAnswer) (k : ℕ) → k ≡ listed (e .grains) → ((e .grains ≡ 0 → ⊥) → Sighted a e)
+    → Known a (record { grains = e .grains; list = k; next = e .next; prev = e .prev })
+known-first a e k q i n = record { list = listed-below (e .grains) k n q (i n .list); next = i n .next; prev = i n .prev }
+
+-- the second, after the first
+pub known-second : (a : List ℕ) (e f : BesideAnswer) (w k y u : ℕ) → ((e .grains ≡ 0 → ⊥) → Sighted a e) → k ≡ listed (f .grains) → ((f .grains ≡ 0 → ⊥) → Sighted a f)
+    → y ≡ relinked (e .grains) (e .prev) w (e .next) (f .next) → u ≡ relinked (e .grains) (e .next) w (e .prev) (f .prev)
+    → Known a (record { grains = f .grains; list = k; next = y; prev = u })
+known-second a e f w k y u i q j c d n = record {
+  list = listed-below (f .grains) k n q (j n .list);
+  next = subst (Leads a) (sym c) (relinked-leads a (e .grains) (e .prev) w (e .next) (f .next) (λ m. i m .next) (j n .next));
+  prev = subst (Leads a) (sym d) (relinked-leads a (e .grains) (e .next) w (e .prev) (f .prev) (λ m. i m .prev) (j n .prev));
+}

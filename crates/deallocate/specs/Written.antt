@@ -1,0 +1,98 @@
+-- What is written for a return, part by part: the neighbours leave, the joined block goes to the head of its list, it is
+-- marked as free at both ends, and its payload is not live any more.
+use Prim.Native.Nat.{ℕ, zero, suc, _+_, _*_, _<_}
+use native.Mathlib.Omega.{arith}
+use mathlib.Core.Path.{_≡_, refl, ap, sym, _∙_}
+use mathlib.Core.List.{List, [], _∷_, _++_}
+use lib.ListN.{length}
+use Rattle.choice.specs.Choice.{eq-yes}
+use Rattle.word.specs.Word.{putAt}
+use Rattle.bits.specs.TableBit.{clearTableBit, setTableBit}
+use Rattle.script.specs.Memory.{Before, freeWord, Write}
+use Rattle.sound.specs.Links.{unlinkWrites, pushWrites}
+use Rattle.sound.specs.Plans.{freeWrites}
+use Rattle.slices.specs.Decode.{grains, sizeWord, free-stored}
+use Rattle.slices.specs.Arena.{putSize, putLink}
+use Rattle.slices.specs.Slices.{Slices, stores}
+use Rattle.slices.specs.Kept.{stores-append}
+use Rattle.free_list.specs.Lent.{lent, link, link-keep, leads-keep, grain-stored}
+use Rattle.free_list.specs.Written.{Written, written-none, written-then, written-as, written-length}
+use Rattle.deallocate.specs.declared.Neighbour.{Neighbour}
+use Rattle.deallocate.specs.After.{leaving}
+use Rattle.deallocate.specs.Shown.{leavingOf, bothLeaving, Known}
+
+-- ---- a neighbour
+
+-- nobody leaves
+pub left-nobody : (a l : List ℕ) (e : Neighbour) → e .grains ≡ 0 → Written a l (leavingOf a e) a l
+left-nobody a l e n = go (e .grains) n
+  where
+    go : (g : ℕ) → g ≡ 0 → Written a l (leaving a g (e .list) (e .next) (e .prev)) a l
+    go zero n = written-none a l
+    go (suc g) n = absurd (omega arith)
+
+-- one does
+pub left-list : (a l b m : List ℕ) (e : Neighbour) → (e .grains ≡ 0 → ⊥) → Written a l (unlinkWrites (e .list) (link a (e .next)) (link a (e .prev))) b m → Written a l (leavingOf a e) b m
+left-list a l b m e n h = go (e .grains) n
+  where
+    go : (g : ℕ) → (g ≡ 0 → ⊥) → Written a l (leaving a g (e .list) (e .next) (e .prev)) b m
+    go zero n = absurd (n refl)
+    go (suc g) n = h
+
+-- only the arena's length counts
+leaving-keep : (a b : List ℕ) (g k x p : ℕ) → length b ≡ length a → leaving a g k x p ≡ leaving b g k x p
+leaving-keep a b zero k x p e = refl
+leaving-keep a b (suc g) k x p e =
+    ap (λ (y : ℕ). unlinkWrites k y (link a p)) (sym (link-keep a b x e)) ∙ ap (unlinkWrites k (link b x)) (sym (link-keep a b p e))
+
+pub known-keep : (a b : List ℕ) (f : Neighbour) → length b ≡ length a → Known a f → Known b f
+known-keep a b f e k n = record { list = k n .list; next = leads-keep a b (f .next) e (k n .next); prev = leads-keep a b (f .prev) e (k n .prev) }
+
+-- ---- both, and the joined block at the head of its list
+
+pub relisted : (e f : Neighbour) (k z h : ℕ) {a l b m c o d p : List ℕ} → Written a l (leavingOf a e) b m → Written b m (leavingOf b f) c o → Written c o (pushWrites k z (link c h)) d p
+    → Written a l (bothLeaving a e f ++ pushWrites k z (link a h)) d p
+relisted e f k z h {a} {l} {b} {m} {c} {o} {d} {p} i j u =
+    let x : length b ≡ length a = written-length {w = leavingOf a e} i in
+    let y : length c ≡ length b = written-length {w = leavingOf b f} j in
+    written-then {p = bothLeaving a e f} {q = pushWrites k z (link a h)}
+    (written-then {p = leavingOf a e} {q = leavingOf a f} i (written-as {p = leavingOf b f} (leaving-keep a b (f .grains) (f .list) (f .next) (f .prev) x) j))
+    (written-as {p = pushWrites k z (link c h)} (ap (pushWrites k z) (sym (link-keep a c h (y ∙ x)))) u)
+
+-- ---- its two ends
+
+-- the words of a free block of t grains at z
+abbrev pub freed : List ℕ → ℕ → ℕ → List ℕ
+freed a z t = putLink 8 (putSize 8 a z (freeWord t)) Before (z + t) z
+
+pub freed-words : (a b c : List ℕ) (z t u w : ℕ) → length a < 18446744073709551616 → z < grains 8 a → u ≡ 32 * t → w ≡ 32 * z
+    → b ≡ putAt 8 a (4 * z + 0) u → c ≡ putAt 8 b (4 * (z + t) + 1) w → c ≡ freed a z t
+unfolding putSize putLink
+freed-words a b c z t u w s h d e f g =
+    let i : 4 * z + 0 ≡ 4 * z = omega arith in
+    g ∙ ap (λ (b : List ℕ). putAt 8 b (4 * (z + t) + 1) w)
+    (f ∙ ap (λ (j : ℕ). putAt 8 a j u) i ∙ ap (putAt 8 a (4 * z)) (d ∙ sym (free-stored 32 t)))
+    ∙ ap (putAt 8 (putAt 8 a (4 * z) (sizeWord 32 (freeWord t))) (4 * (z + t) + 1)) (e ∙ sym (grain-stored a z s h))
+
+-- ---- all
+
+-- the slices into which the writes w were stored; the regions stay, whatever they are
+pub record Returned (a l v : List ℕ) (w : List Write) (b m o : List ℕ) : Type 0 where
+  pub arena : (t : List ℕ) → b ≡ stores 8 (lent a l v t) w .arena
+  pub lists : (t : List ℕ) → m ≡ stores 8 (lent a l v t) w .lists
+  pub live : (t : List ℕ) → o ≡ stores 8 (lent a l v t) w .live
+  pub slices : (t : List ℕ) → record { arena = b; lists = m; live = o; regions = t } ≡ stores 8 (lent a l v t) w
+
+pub returned : (q z t : ℕ) (w : List Write) {a l b m c v o : List ℕ} → Written a l w b m → c ≡ freed b z t → o ≡ clearTableBit v q → Returned a l v (w ++ freeWrites q z t) c m o
+returned q z t w {a} {l} {b} {m} {c} {v} {o} f e d = record {
+  arena = λ u. ap (λ (S : Slices). S .arena) (all u);
+  lists = λ u. ap (λ (S : Slices). S .lists) (all u);
+  live = λ u. ap (λ (S : Slices). S .live) (all u);
+  slices = all;
+}
+  where
+    all : (u : List ℕ) → lent c m o u ≡ stores 8 (lent a l v u) (w ++ freeWrites q z t)
+    all u =
+        ap (λ (x : List ℕ). lent x m o u) e
+        ∙ ap (λ (x : List ℕ). lent (freed b z t) m x u) (d ∙ sym (eq-yes 0 0 (clearTableBit v q) (setTableBit v q) refl))
+        ∙ ap (λ (S : Slices). stores 8 S (freeWrites q z t)) (f .slices v u) ∙ sym (stores-append 8 (lent a l v u) w (freeWrites q z t))

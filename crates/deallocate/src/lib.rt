@@ -1,0 +1,260 @@
+// The return of a block: its plan, which is read off the lent slices and checked before anything is written. A free
+// neighbour leaves its list, and the joined block goes to the head of the list of its size.
+ghost use mathlib.Core.Path.{_≡_};
+ghost use mathlib.Core.List.{List, _++_};
+ghost use Prim.Native.Nat.{ℕ, _+_, _*_, _≤_, _<_};
+ghost use lib.ListN.{length};
+ghost use Rattle.script.specs.Script.{run};
+ghost use Rattle.sound.specs.Plans.{joinScript, giveBackScript};
+ghost use Rattle.slices.specs.Decode.{grains};
+ghost use Rattle.neighbours.specs.Shown.{held, Long};
+ghost use Rattle.bits.specs.Map.{lists as listCount};
+ghost use Rattle.sound.specs.Links.{pushWrites};
+ghost use Rattle.free_list.specs.Lent.{link, Leads};
+ghost use Rattle.free_list.specs.Written.{Written};
+ghost use Rattle.deallocate.specs.After.{relinked, headed};
+ghost use Rattle.deallocate.specs.Shown.{bothLeaving, shown, Known, Able, mergeScript, listed, leavingOf, backWrites};
+ghost use Rattle.deallocate.specs.Written.{freed, Returned};
+
+// The fields of a header that say how large a block is, and which block is before.
+const SIZE: usize = 0;
+
+const BEFORE: usize = 1;
+
+// A link that leads nowhere.
+const NONE: u64 = 18446744073709551615;
+
+// How many lists there are.
+const LISTS: usize = 192;
+
+// The records contradict each other.
+const DAMAGED: u64 = 5;
+
+// A free neighbour that leaves its list, where it is before one block and behind another; nobody has no grains.
+pub struct Neighbour {
+    pub grains: usize,
+    pub list: usize,
+    pub next: u64,
+    pub prev: u64,
+}
+
+// Why the call is refused, unless with 0; the joined block, the neighbours that leave, in this order, and the list to which
+// it goes, with the head that it is put before.
+pub struct Plan {
+    pub refusal: u64,
+    pub at: usize,
+    pub grains: usize,
+    pub behind: Neighbour,
+    pub before: Neighbour,
+    pub list: usize,
+    pub head: u64,
+}
+
+// ---- the plan
+
+// The payload at q, counted in half grains, is returned.
+pub fn plan_back(a: &[u8], lists: &[u64], live: &[u64], q: usize) -> Plan
+    requires { ⌜ (q < 64 * length (now live)) × (q < 2 * grains 8 (now a)) × Long (now lists) ⌝ }
+    ensures { λ r. ⌜ ((t : List ℕ) → shown (now (a .entry)) q r ≡ run (held (now (a .entry)) (now (lists .entry)) (now (live .entry)) t) (giveBackScript (grains 8 (now (a .entry))) 12 q)) × (r .refusal ≡ 0 → Able (now (a .entry)) r) ⌝ }
+{
+    let o = neighbours::see_owner(a, live, q);
+    if o.refusal != 0 {
+        return refused(o.refusal);
+    }
+    plan_merge(a, lists, o.at, o.grains)
+}
+
+// The used block of s grains at x is joined with its free neighbours.
+fn plan_merge(a: &[u8], lists: &[u64], x: usize, s: usize) -> Plan
+    requires { ⌜ (1 ≤ s) × (x + s < grains 8 (now a)) × Long (now lists) ⌝ }
+    ensures { λ r. ⌜ ((q : ℕ) (v t : List ℕ) → shown (now (a .entry)) q r ≡ run (held (now (a .entry)) (now (lists .entry)) v t) (mergeScript (grains 8 (now (a .entry))) q x s)) × (r .refusal ≡ 0 → Able (now (a .entry)) r) ⌝ }
+{
+    let e = neighbours::see_behind(a, lists, x + s);
+    if !e.ok {
+        return refused(DAMAGED);
+    }
+    let f = neighbours::see_before(a, lists, x);
+    if !f.ok {
+        return refused(DAMAGED);
+    }
+    let z = x - f.grains;
+    let behind = Neighbour {
+        grains: e.grains,
+        list: list_of(e.grains),
+        next: e.next,
+        prev: e.prev,
+    };
+    let before = Neighbour {
+        grains: f.grains,
+        list: list_of(f.grains),
+        next: after(e.grains, e.prev, z, e.next, f.next),
+        prev: after(e.grains, e.next, z, e.prev, f.prev),
+    };
+    plan_join(a, lists, z, f.grains + (s + e.grains), behind, before)
+}
+
+// The joined block of t grains at z goes to its list, after both neighbours left.
+fn plan_join(
+    a: &[u8],
+    lists: &[u64],
+    z: usize,
+    t: usize,
+    behind: Neighbour,
+    before: Neighbour,
+) -> Plan
+    requires { ⌜ (1 ≤ t) × (z + t < grains 8 (now a)) × Long (now lists) × Known (now a) behind × Known (now a) before ⌝ }
+    ensures { λ r. ⌜ ((q : ℕ) (v u : List ℕ) → shown (now (a .entry)) q r ≡ run (held (now (a .entry)) (now (lists .entry)) v u) (joinScript (grains 8 (now (a .entry))) 12 q z t (bothLeaving (now (a .entry)) behind before))) × (r .refusal ≡ 0 → Able (now (a .entry)) r) ⌝ }
+{
+    let list = class::map_floor(t as u64) as usize;
+    if LISTS <= list {
+        return refused(DAMAGED);
+    }
+    let h = free_list::see_head(a, lists, list);
+    if !h.ok {
+        return refused(DAMAGED);
+    }
+    let first = head_after(
+        behind.grains,
+        behind.list,
+        behind.next,
+        behind.prev,
+        list,
+        h.word,
+    );
+    let head = head_after(
+        before.grains,
+        before.list,
+        before.next,
+        before.prev,
+        list,
+        first,
+    );
+    Plan {
+        refusal: 0,
+        at: z,
+        grains: t,
+        behind,
+        before,
+        list,
+        head,
+    }
+}
+
+fn refused(why: u64) -> Plan
+    ensures { λ r. ⌜ r .refusal ≡ why ⌝ }
+{
+    Plan {
+        refusal: why,
+        at: 0,
+        grains: 0,
+        behind: nobody(),
+        before: nobody(),
+        list: 0,
+        head: NONE,
+    }
+}
+
+fn nobody() -> Neighbour
+    ensures { λ r. ⌜ r .grains ≡ 0 ⌝ }
+{
+    Neighbour {
+        grains: 0,
+        list: 0,
+        next: NONE,
+        prev: NONE,
+    }
+}
+
+// The list of a neighbour of g grains, if there is one.
+fn list_of(g: usize) -> usize
+    requires { ⌜ g < 576460752303423488 ⌝ }
+    ensures { λ r. ⌜ r ≡ listed g ⌝ }
+{
+    if g == 0 {
+        return 0;
+    }
+    class::map_floor(g as u64) as usize
+}
+
+// ---- what the leaving of a neighbour changes
+
+// The link v of the grain z, after a neighbour of g grains left its list; its link b, where it led to z, was what led from z
+// to it, and leads to w now.
+fn after(g: usize, b: u64, z: usize, w: u64, v: u64) -> u64
+    requires { ⌜ z < 576460752303423488 ⌝ }
+    ensures { λ r. ⌜ r ≡ relinked g b (32 * z) w v ⌝ }
+{
+    if g == 0 {
+        return v;
+    }
+    if b == header::bytes_of(z) {
+        return w;
+    }
+    v
+}
+
+// The head h of list j, after a neighbour of g grains left list k, where it was before x and behind p.
+fn head_after(g: usize, k: usize, x: u64, p: u64, j: usize, h: u64) -> u64
+    ensures { λ r. ⌜ r ≡ headed g k x p j h ⌝ }
+{
+    if g == 0 {
+        return h;
+    }
+    if p != NONE {
+        return h;
+    }
+    if k != j {
+        return h;
+    }
+    x
+}
+
+// ---- what is written
+
+// What was planned for the payload at q.
+pub fn apply_back(a: &mut [u8], lists: &mut [u64], live: &mut [u64], q: usize, p: Plan)
+    requires { ⌜ Able (now a) p × Long (now lists) × (q < 64 * length (now live)) ⌝ }
+    ensures { λ r. ⌜ Returned (now (a .entry)) (now (lists .entry)) (now (live .entry)) (backWrites (now (a .entry)) q p) (now (a .exit)) (now (lists .exit)) (now (live .exit)) ⌝ }
+{
+    relist(a, lists, p.behind, p.before, p.list, p.at, p.head);
+    put_free(a, p.at, p.grains);
+    bits::clear_table_bit(live, q);
+}
+
+// Both neighbours leave, and the block at z goes to the head of list k, before h.
+fn relist(
+    a: &mut [u8],
+    lists: &mut [u64],
+    behind: Neighbour,
+    before: Neighbour,
+    k: usize,
+    z: usize,
+    h: u64,
+)
+    requires { ⌜ Known (now a) behind × Known (now a) before × (k < listCount) × Long (now lists) × (z < grains 8 (now a)) × Leads (now a) h ⌝ }
+    ensures { λ r. ⌜ Written (now (a .entry)) (now (lists .entry)) (bothLeaving (now (a .entry)) behind before ++ pushWrites k z (link (now (a .entry)) h)) (now (a .exit)) (now (lists .exit)) ⌝ }
+{
+    leave(a, lists, behind);
+    leave(a, lists, before);
+    free_list::push(a, lists, k, z, h);
+}
+
+// A neighbour leaves its list, if there is one.
+fn leave(a: &mut [u8], lists: &mut [u64], e: Neighbour)
+    requires { ⌜ Known (now a) e × Long (now lists) ⌝ }
+    ensures { λ r. ⌜ Written (now (a .entry)) (now (lists .entry)) (leavingOf (now (a .entry)) e) (now (a .exit)) (now (lists .exit)) ⌝ }
+{
+    if e.grains == 0 {
+        return;
+    }
+    free_list::unlink(a, lists, e.list, e.next, e.prev);
+}
+
+// A free block of t grains at z.
+fn put_free(a: &mut [u8], z: usize, t: usize)
+    requires { ⌜ z + t < grains 8 (now a) ⌝ }
+    ensures { λ r. ⌜ now (a .exit) ≡ freed (now (a .entry)) z t ⌝ }
+{
+    header::put_field(a, z, SIZE, header::bytes_of(t));
+    header::put_field(a, z + t, BEFORE, header::bytes_of(z));
+}
