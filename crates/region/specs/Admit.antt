@@ -3,18 +3,18 @@
 -- looked at, and from there on (`beside`). Each law is one return of the code.
 use Prim.Native.Nat.{ℕ, zero, suc, _+_, _-_, _*_, _/_, _≤_, _<_}
 use native.Mathlib.Omega.{arith}
-use mathlib.Core.Path.{_≡_, refl, ap, sym, _∙_}
+use mathlib.Core.Path.{_≡_, ap, sym, _∙_}
 use mathlib.Core.Bool.{Bool, true, false}
 use mathlib.Core.List.{List, [], _∷_, _++_}
 use lib.ListN.{length}
 use Rattle.choice.specs.Choice.{ifEq, eq-yes, eq-no}
 use Rattle.table.specs.Table.{entry}
 use Rattle.script.specs.Memory.{Memory, Table, _at_≔_}
-use Rattle.script.specs.Script.{Script, Result, ok, no, run, done, stop, _>>=_, _>>_, unlessLe, mustEq, mustLe, Gives, goes, halts, reads, gives-done, gives-eq, gives-le, halts-eq, halts-le, runs-stop}
+use Rattle.script.specs.Script.{Script, no, run, done, stop, _>>=_, _>>_, unlessLe, mustEq, mustLe, Gives, goes, halts, reads, gives-done, gives-eq, gives-le, halts-eq, halts-le, runs-stop}
 use Rattle.sound.specs.Plans.{Plan}
 use Rattle.sound.specs.RegionPlan.{Looked, seeRegions, Layout, layScript, regionScript}
 use Rattle.region.specs.declared.Findings.{Findings}
-use Rattle.region.specs.Look.{Holds, unseen, LookedThrough}
+use Rattle.region.specs.Look.{Holds, unseen, told, LookedThrough}
 
 -- how many regions the table t can hold
 abbrev pub mostOf : List ℕ → ℕ
@@ -50,14 +50,14 @@ Goes m t s zero = run m t ≡ run m s
 Goes m t s (suc r) = run m t ≡ no (suc r)
 
 -- there is room in the table, and the region is inside the arena
-pub record Room (t : List ℕ) (n g len : ℕ) : Type 0 where
+pub record Givable (t : List ℕ) (n g len : ℕ) : Type 0 where
   pub spare : entry t 0 < mostOf t
   pub long : 2 ≤ len
   pub inside : g + len ≤ n
 
 -- what holds where nothing is refused
 abbrev pub Admitted : List ℕ → ℕ → ℕ → ℕ → ℕ → Type 0
-Admitted t n g len zero = Room t n g len
+Admitted t n g len zero = Givable t n g len
 Admitted t n g len (suc r) = Unit {0}
 
 pub record Answered (t : List ℕ) (behind n g len r : ℕ) : Type 0 where
@@ -140,6 +140,35 @@ module _ (t : List ℕ) (behind n g len most count : ℕ) (mostIs : most ≡ mos
 -- ---- the look
 
 module _ (t : List ℕ) (behind n g len count : ℕ) (found : Findings) (countIs : count ≡ entry t 0) (seen : LookedThrough t n g len count found) where
-  -- what was found, where no region overlaps
-  said : Looked
+  -- what was found
+  abbrev said : Looked
   said = record { meets = found .meets; wrong = found .wrong }
+
+  module _ (m : Memory) (h : Holds m t) where
+    -- as the script says it
+    overlapped : found .clear ≡ false → run m (seeRegions n g len count 0 unseen) ≡ no 4
+    overlapped e = sym (seen m h) ∙ ap (λ (b : Bool). told b said) e
+
+    cleared : found .clear ≡ true → Gives m (seeRegions n g len count 0 unseen) said
+    cleared e = sym (seen m h) ∙ ap (λ (b : Bool). told b said) e
+
+  -- a region overlaps
+  pub beside-overlap : found .clear ≡ false → AnsweredBeside t behind n g len 4
+  beside-overlap e m h c = rw (← countIs) (halts m (seeRegions n g len count 0 unseen) _ (overlapped m h e))
+
+  -- none ends where it must
+  pub beside-apart : found .clear ≡ true → found .meets < behind → AnsweredBeside t behind n g len 4
+  beside-apart e a m h c = rw (← countIs)
+      (goes m (seeRegions n g len count 0 unseen) _ (cleared m h e) ∙ halts m (unlessLe 4 behind (found .meets)) _ (halts-le m 4 behind (found .meets) a))
+
+  -- an entry can't be right
+  pub beside-wrong : found .clear ≡ true → behind ≤ found .meets → (found .wrong ≡ 0 → ⊥) → AnsweredBeside t behind n g len 5
+  beside-wrong e a b m h c = rw (← countIs)
+      (goes m (seeRegions n g len count 0 unseen) _ (cleared m h e) ∙ goes m (unlessLe 4 behind (found .meets)) _ (gives-le m 4 behind (found .meets) a)
+      ∙ halts m (mustEq (found .wrong) 0) _ (halts-eq m 5 (found .wrong) 0 b))
+
+  -- nothing is in the way
+  pub beside-clear : found .clear ≡ true → behind ≤ found .meets → found .wrong ≡ 0 → AnsweredBeside t behind n g len 0
+  beside-clear e a b m h c = rw (← countIs)
+      (goes m (seeRegions n g len count 0 unseen) _ (cleared m h e) ∙ goes m (unlessLe 4 behind (found .meets)) _ (gives-le m 4 behind (found .meets) a)
+      ∙ goes m (mustEq (found .wrong) 0) _ (gives-eq m 5 (found .wrong) 0 b))
