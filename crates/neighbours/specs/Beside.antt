@@ -24,6 +24,7 @@ use Rattle.free_list.specs.Lent.{lent, noLink, link, link-none, link-some, link
 use Rattle.free_list.specs.Back.{answer}
 use Rattle.free_list.specs.Seen.{shownEntry}
 use Rattle.free_list.specs.declared.Entry.{Entry as EntryAnswer}
+use Rattle.neighbours.specs.declared.Beside.{Beside as BesideAnswer}
 use Rattle.neighbours.specs.Shown.{held, classes, before-read, before-link, link-from, alone, shownBeside, someone, someone-is}
 
 -- ---- a free block in the list of its size
@@ -33,6 +34,10 @@ seeListed n t y = do
   mustList classes t
   e ← seeEntry n (listOf t) y
   done (somebody t e)
+
+-- the answer on t grains at y is that of the script
+abbrev pub SeenListed : List ℕ → List ℕ → ℕ → ℕ → BesideAnswer → Type 0
+SeenListed a l t y r = (v u : List ℕ) → shownBeside a r ≡ run (held a l v u) (seeListed (grains 8 a) t y)
 
 module _ (a l v r : List ℕ) (t y k : ℕ) (j : k ≡ listOf t) where
   -- the size has no list
@@ -69,6 +74,7 @@ free-inside a y t e ne = go (wordOf (sizeAt 8 a y)) e (size-inside 8 a y)
     go isLast e i = absurd (ne e)
     go isBad e i = absurd (ne e)
 
+-- the word of a free block
 free-some : (w : Word) → (freeOf w ≡ 0 → ⊥) → w ≡ isFree (freeOf w)
 free-some (isFree s) h = refl
 free-some (isUsed s) h = absurd (h refl)
@@ -76,6 +82,7 @@ free-some isLast h = absurd (h refl)
 free-some isBad h = absurd (h refl)
 
 module _ (m : Memory) where
+  -- a busy block passes, and no other
   busy-yes : (w : Word) → busyOf w ≡ true → run m (asBusy w) ≡ ok (tt {0})
   busy-yes (isFree s) e = cc
   busy-yes (isUsed s) e = gives-done m (tt {0})
@@ -104,6 +111,7 @@ module _ (m : Memory) where
 -- ---- behind a used block
 
 module _ (a l v r : List ℕ) (y t : ℕ) (f : t ≡ freeOf (wordOf (sizeAt 8 a y))) where
+  -- the size word is read
   behind-word : run (held a l v r) (seeBehind (grains 8 a) classes y) ≡ run (held a l v r) (asBehind (grains 8 a) classes y (wordOf (sizeAt 8 a y)))
   unfolding seeBehind
   behind-word = reads (held a l v r) Size y _ (memory-size 8 (lent a l v r) y)
@@ -119,6 +127,7 @@ module _ (a l v r : List ℕ) (y t : ℕ) (f : t ≡ freeOf (wordOf (sizeAt 8 a 
       go isBad e q i = ap (λ (b : Bool). shownBeside a (alone b)) e ∙ sym (runs-stop (held a l v r) 5)
 
   module _ (z : t ≡ 0 → ⊥) where
+    -- a free block
     behind-free : run (held a l v r) (seeBehind (grains 8 a) classes y) ≡ run (held a l v r) (freeBehind (grains 8 a) classes y t)
     behind-free =
         let w : wordOf (sizeAt 8 a y) ≡ isFree t = free-some (wordOf (sizeAt 8 a y)) (λ p. z (f ∙ p)) ∙ ap isFree (sym f) in
@@ -132,6 +141,7 @@ module _ (a l v r : List ℕ) (y t : ℕ) (f : t ≡ freeOf (wordOf (sizeAt 8 a 
         (reads m Size (y + t) _ (memory-size 8 (lent a l v r) (y + t)) ∙ busy-no m (wordOf (sizeAt 8 a (y + t))) (sym e)))
 
     module _ (b : true ≡ busyOf (wordOf (sizeAt 8 a (y + t)))) where
+      -- a busy one is behind it
       behind-end : run (held a l v r) (seeBehind (grains 8 a) classes y) ≡ run (held a l v r) (mustList classes t >> (mustLead Before (y + t) y >> (seeEntry (grains 8 a) (listOf t) y >>= (λ e. done (somebody t e)))))
       behind-end =
           let m = held a l v r in
@@ -173,6 +183,7 @@ module _ (a l v r : List ℕ) (x w : ℕ) (s : length a < 18446744073709551616) 
         ∙ halts m (mustLe (suc (link a w)) x) _ (halts-le m 5 (suc (link a w)) x o))
 
     module _ (h : z < x) (t : ℕ) (f : t ≡ freeOf (wordOf (sizeAt 8 a z))) where
+      -- the size word of the block before is read
       before-word : run (held a l v r) (seeBefore (grains 8 a) classes x) ≡ run (held a l v r) (asBefore (grains 8 a) classes x z (wordOf (sizeAt 8 a z)))
       unfolding seeBefore
       before-word =
@@ -207,6 +218,7 @@ module _ (a l v r : List ℕ) (x w : ℕ) (s : length a < 18446744073709551616) 
           go isBad p q i = refuse u p
 
       module _ (n : t ≡ 0 → ⊥) where
+        -- a free block
         before-free : run (held a l v r) (seeBefore (grains 8 a) classes x) ≡ run (held a l v r) (freeBefore (grains 8 a) classes x z t)
         before-free =
             let w : wordOf (sizeAt 8 a z) ≡ isFree t = free-some (wordOf (sizeAt 8 a z)) (λ p. n (f ∙ p)) ∙ ap isFree (sym f) in
