@@ -1,0 +1,104 @@
+// The free lists, as they stand in the lent slices: the links in the arena, the map and the heads in the table of the
+// lists. Links are words: the bytes of a grain, or none. What contradicts itself is found before anything is written.
+ghost use mathlib.Core.Path.{_≡_};
+ghost use Prim.Native.Nat.{_+_, _*_, _≤_, _<_};
+ghost use Rattle.choice.specs.Says.{Says};
+ghost use Rattle.table.specs.Table.{entry};
+ghost use Rattle.bits.specs.Map.{mapWords};
+ghost use Rattle.slices.specs.Decode.{grains};
+ghost use Rattle.free_list.specs.Lent.{Room};
+ghost use Rattle.free_list.specs.Back.{Back};
+ghost use Rattle.free_list.specs.Place.{Placed};
+ghost use Rattle.free_list.specs.Seen.{SeenEntry, SeenHead};
+
+// The fields of a header that link a free block to its neighbours in the list.
+const NEXT: usize = 2;
+
+const PREV: usize = 3;
+
+// A link that leads nowhere.
+const NONE: u64 = 18446744073709551615;
+
+// The words of the map, behind which the heads stand.
+const MAP_WORDS: usize = 3;
+
+// The links of a block in its list, where all that is beside it agrees.
+pub struct Entry {
+    pub ok: bool,
+    pub next: u64,
+    pub prev: u64,
+}
+
+// The head of a list, where all that is beside it agrees.
+pub struct Head {
+    pub ok: bool,
+    pub word: u64,
+}
+
+// ---- checks
+
+// Block y of list k, with what is behind it and before it.
+pub fn see_entry(a: &[u8], lists: &[u64], k: usize, y: usize) -> Entry
+    requires { ⌜ (y < grains 8 (now a)) × Room k (now lists) ⌝ }
+    ensures { λ r. ⌜ SeenEntry (now (a .entry)) (now (lists .entry)) k y r ⌝ }
+{
+    let next = header::field(a, y, NEXT);
+    let prev = header::field(a, y, PREV);
+    if !leads_back(a, PREV, next, y) {
+        return Entry {
+            ok: false,
+            next,
+            prev,
+        };
+    }
+    if !bits::is_marked(lists, k) {
+        return Entry {
+            ok: false,
+            next,
+            prev,
+        };
+    }
+    let ok = stands_behind(a, head_of(lists, k), y, prev);
+    Entry { ok, next, prev }
+}
+
+// The word of the head of list k.
+fn head_of(lists: &[u64], k: usize) -> u64
+    requires { ⌜ Room k (now lists) ⌝ }
+    ensures { λ r. ⌜ r ≡ entry (now (lists .entry)) (mapWords + k) ⌝ }
+{
+    table::fetch(lists, MAP_WORDS + k)
+}
+
+// Whether y stands behind p in a list whose head is h: behind nothing exactly where it is the head.
+fn stands_behind(a: &[u8], h: u64, y: usize, p: u64) -> bool
+    requires { ⌜ y < grains 8 (now a) ⌝ }
+    ensures { λ r. ⌜ Placed (now (a .entry)) h y p r ⌝ }
+{
+    let word = header::bytes_of(y);
+    if p == NONE {
+        return h == word;
+    }
+    if header::count(a) <= header::grain_of(h) {
+        return false;
+    }
+    if h == word {
+        return false;
+    }
+    leads_back(a, NEXT, p, y)
+}
+
+// Whether x is none, or leads to a grain whose link f leads to y.
+fn leads_back(a: &[u8], f: usize, x: u64, y: usize) -> bool
+    requires { ⌜ (f < 4) × (y < grains 8 (now a)) ⌝ }
+    ensures { λ r. ⌜ Says (Back (now (a .entry)) f x y) r ⌝ }
+{
+    if x == NONE {
+        return true;
+    }
+    let g = header::grain_of(x);
+    if header::count(a) <= g {
+        return false;
+    }
+    header::leads(a, g, f, y)
+}

@@ -1,0 +1,44 @@
+-- `header::free_at`: each return is one test of the size word.
+use native.Mathlib.Omega.{arith}
+use mathlib.Core.Path.{_≡_, refl, ap, sym, _∙_, subst}
+use Rattle.slices.specs.Decode.{grains}
+use Rattle.header.specs.Turned.{turned, grains-few}
+use Rattle.header.specs.Told.{freeOf, told-free, not-free, told-zero, says}
+use borrow.Author.Needs.{needs}
+use Rattle.header.proofs.free_at.Statement.{statement}
+use Rattle.header.proofs.free_at.Tie as tie
+
+field-requires : tie.Need-field-requires
+field-requires c κs = search needs
+
+returns : tie.Need-returns
+returns c = says (c .before .before .before .args .a .now) (c .before .before .before .args .g) (c .before .field .result) (c .before .before .before .pre) (c .before .field .ensures) freeOf (ap freeOf (told-zero _ _ _ (c .if1 .taken)))
+
+grain-of-requires : tie.Need-grain-of-requires
+grain-of-requires c κs = search needs
+
+count-requires : tie.Need-count-requires
+count-requires c κs = search needs
+
+sub-if2 : tie.Need-sub-if2
+sub-if2 c = search needs
+
+returns-2 : tie.Need-returns-2
+returns-2 c =
+    let s = c .before .before .before .before .before .before in
+    let w = c .before .before .before .before in
+    says (s .args .a .now) (s .args .g) (w .field .result) (s .pre) (w .field .ensures) freeOf (not-free _ _ _ (s .pre) (rw (c .before .count .ensures, c .before .before .grain-of .ensures) at (c .if2 .taken)))
+
+returns-3 : tie.Need-returns-3
+returns-3 c =
+    let s = c .before .before .before .before .before .before in
+    let w = c .before .before .before .before in
+    let few = grains-few (s .args .a .now) (s .good .0 .0) in
+    let z = c .before .before .before .if1 .left in
+    says (s .args .a .now) (s .args .g) (w .field .result) (s .pre) (w .field .ensures) freeOf
+    (ap freeOf (told-free _ _ _ (s .pre) few z (rw (c .before .count .ensures, c .before .before .grain-of .ensures) at (c .if2 .left))) ∙ sym (c .before .before .grain-of .ensures))
+
+pub free-at-spec : {M : Type 1} → statement M
+free-at-spec =
+    tie.close
+    (tie.spec field-requires returns grain-of-requires count-requires sub-if2 returns-2 returns-3)
