@@ -4,7 +4,7 @@ use Prim.Native.Nat.{ℕ, zero, suc, _+_, _-_, _*_, _/_, _^_, min}
 use mathlib.Core.List.{List, [], _∷_}
 use Rattle.choice.specs.Choice.{ifEq, ifLe, upd}
 use Rattle.class.specs.Class.{listOf, startOf}
-use Rattle.definition.specs.Blocks.{Block, free, used, last, gap, size, total, _⟨⟩_, Place, find, offset, payload, room, past, gaps, bare, without}
+use Rattle.definition.specs.Blocks.{Block, free, used, last, gap, total, _⟨⟩_, find, offset, payload, room, past, gaps, bare, without}
 use Rattle.definition.specs.Lists.{Lists, push, drop, skip, remove, Found, nothing, found, search}
 
 pub record Heap : Type 0 where

@@ -1,9 +1,9 @@
 -- Recorded answers of rlsf 0.2.3 where a description in words says little, by computation. Bytes, half grains of 16; a refusal is
 -- shown by its number, a granted return by 0.
-use Prim.Native.Nat.{ℕ, zero, suc, _*_}
+use Prim.Native.Nat.{ℕ, _*_}
 use mathlib.Core.Path.{_≡_, refl}
 use mathlib.Core.List.{List, [], _∷_}
-use Rattle.definition.specs.Calls.{Heap, Refusal, noList, notLive, noRegion, empty}
+use Rattle.definition.specs.Calls.{noList, notLive, noRegion, empty}
 use Rattle.definition.specs.Run.{Call, Give, Append, Take, Return, Resize, Row, no, row, run, after}
 
 unfoldable pub number : Row → ℕ

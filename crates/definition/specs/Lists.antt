@@ -1,6 +1,6 @@
 -- The lists of free blocks, one for each list number: a block is put at the head, and taken from the head, or from
 -- within when a neighbour swallows it.
-use Prim.Native.Nat.{ℕ, zero, suc, _+_}
+use Prim.Native.Nat.{ℕ, zero, suc}
 use mathlib.Core.List.{List, [], _∷_}
 use Rattle.choice.specs.Choice.{ifEq, upd}
 use Rattle.class.specs.Class.{listOf}

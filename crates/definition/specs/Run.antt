@@ -1,9 +1,9 @@
 -- The worked run of docs/HEAP.md, by computation. Calls and answers are in bytes, with half grains of 16.
-use Prim.Native.Nat.{ℕ, zero, suc, _+_, _-_, _*_, _/_}
+use Prim.Native.Nat.{ℕ, _+_, _-_, _*_, _/_}
 use mathlib.Core.Path.{_≡_, refl}
 use mathlib.Core.List.{List, [], _∷_}
 use Rattle.definition.specs.Blocks.{Block, free, used, last, gap}
-use Rattle.definition.specs.Calls.{Heap, Refusal, noList, notLive, noRegion, Answer, refused, granted, empty, take, giveBack, resize, insert, append}
+use Rattle.definition.specs.Calls.{Heap, Refusal, noList, Answer, refused, granted, empty, take, giveBack, resize, insert, append}
 use Rattle.definition.specs.Units.{halves, multiple, firstGrain, wholeGrains}
 
 pub data Call : Type 0 where

@@ -1,16 +1,16 @@
 -- A link leads back: it is none, or leads to a grain whose field f leads to y. The check `mustBack` of any memory that
 -- stands in the arena says the same.
-use Prim.Native.Nat.{ℕ, suc, _+_, _*_, _≤_, _<_}
+use Prim.Native.Nat.{ℕ, suc, _≤_, _<_}
 use native.Mathlib.Omega.{arith}
-use mathlib.Core.Path.{_≡_, refl, ap, sym, _∙_, subst}
+use mathlib.Core.Path.{_≡_, refl, ap, sym, _∙_}
 use mathlib.Core.Bool.{Bool, true, false}
 use mathlib.Core.List.{List}
 use mathlib.Core.Logic.{_⊎_, inl, inr, ⊎-elim}
 use lib.ListN.{length}
-use Rattle.choice.specs.Choice.{ifEq, eq-yes, eq-no, same?, le?}
+use Rattle.choice.specs.Choice.{eq-yes, eq-no, le?}
 use Rattle.choice.specs.Says.{Says}
 use Rattle.script.specs.Memory.{Memory, Next, Prev, none}
-use Rattle.script.specs.Script.{Script, Result, ok, no, run, done, _>>_, goes, halts, reads, gives-done, gives-eq, gives-le, halts-eq, halts-le}
+use Rattle.script.specs.Script.{Result, ok, no, run, _>>_, goes, halts, reads, gives-done, gives-eq, gives-le, halts-eq, halts-le}
 use Rattle.sound.specs.Checks.{mustGrain, mustLead, mustBack}
 use Rattle.slices.specs.Decode.{grains, wrongLink}
 use Rattle.slices.specs.Arena.{linkAt, link-in}

@@ -1,11 +1,12 @@
 -- The lent slices, and the links in them: a link is a word, which is none, leads to a grain, or leads nowhere.
-use Prim.Native.Nat.{ℕ, suc, _+_, _*_, _/_, _%_, _≤_, _<_}
+use Prim.Native.Nat.{ℕ, _+_, _*_, _/_, _%_, _≤_, _<_}
 use native.Mathlib.Omega.{arith}
 use mathlib.Core.Path.{_≡_, refl, ap, sym, _∙_}
 use mathlib.Core.List.{List}
-use mathlib.Core.Logic.{_⊎_, inl, inr, ⊎-elim}
+use mathlib.Core.Logic.{_⊎_, inl, inr}
 use lib.ListN.{length}
-use Rattle.choice.specs.Choice.{ifEq, ifLe, eq-yes, eq-no, eq-case, le-case}
+use Rattle.choice.specs.Choice.{eq-yes, eq-no, eq-case, le-case}
+use Rattle.word.specs.Word.{putAt, put-at-length}
 use Rattle.bits.specs.Map.{mapWords, lists}
 use Rattle.script.specs.Memory.{none}
 use Rattle.slices.specs.Decode.{linkOf, linkWord, grains, topOf, grains-keep}
@@ -45,6 +46,10 @@ link-keep a b x e = ap (λ (n : ℕ). linkOf 32 n (topOf 8) x) (grains-keep 8 a 
 pub leads-keep : (a b : List ℕ) (x : ℕ) → length b ≡ length a → Leads a x → Leads b x
 leads-keep a b x e (inl h) = inl h
 leads-keep a b x e (inr h) = inr (rw (grains-keep 8 a b e) h)
+
+-- a grain is one as before where a word was put
+pub grain-put : (a b : List ℕ) (i v y : ℕ) → b ≡ putAt 8 a i v → y < grains 8 a → y < grains 8 b
+grain-put a b i v y e h = rw (grains-keep 8 a b (ap length e ∙ put-at-length 8 a i v)) h
 
 -- no grain is none
 pub below-none : (a : List ℕ) → length a < 18446744073709551616 → grains 8 a ≤ none

@@ -1,6 +1,10 @@
--- The free lists in the lent slices: links as raw words, what the checks of an entry and of a head answer, and what the
--- writes of unlinking and pushing store.
+-- The free lists in the lent slices: links as words (Lent), what the checks of an entry and of a head answer (Seen), and
+-- what the writes of unlinking and pushing store (Written).
 pub mod Lent
 pub mod Back
 pub mod Place
 pub mod Seen
+pub mod Headed
+pub mod Leading
+pub mod Written
+pub mod Moves

@@ -1,24 +1,24 @@
 -- Where a block stands in its list: at the head, with nothing before it, or behind another that leads to it. Each law is
 -- one return of the code, against the check `seePrev`.
-use Prim.Native.Nat.{ℕ, suc, _+_, _*_, _≤_, _<_}
+use Prim.Native.Nat.{ℕ, suc, _*_, _≤_, _<_}
 use native.Mathlib.Omega.{arith}
-use mathlib.Core.Path.{_≡_, refl, ap, sym, _∙_}
-use mathlib.Core.Bool.{Bool, true, false}
+use mathlib.Core.Path.{_≡_, ap, sym, _∙_}
+use mathlib.Core.Bool.{Bool, false}
 use mathlib.Core.List.{List}
 use mathlib.Core.Logic.{⊎-elim}
 use lib.ListN.{length}
 use lib.Dec.{eqb}
 use borrow.Author.Tests.{eq-eqb, ne-eqb}
-use Rattle.choice.specs.Choice.{ifEq, eq-yes, eq-no, same?}
+use Rattle.choice.specs.Choice.{eq-yes, eq-no, same?}
 use Rattle.choice.specs.Says.{Says}
 use Rattle.script.specs.Memory.{Memory, Next, none}
-use Rattle.script.specs.Script.{Script, Result, mustDiffer, _>>=_, ok, no, run, _>>_, goes, halts, gives-eq, gives-le, gives-differ, halts-eq, halts-le, halts-differ}
+use Rattle.script.specs.Script.{Script, mustDiffer, ok, no, run, _>>_, goes, halts, gives-eq, gives-le, gives-differ, halts-eq, halts-le, halts-differ}
 use Rattle.sound.specs.Checks.{mustGrain, mustLead, seePrev}
 use Rattle.slices.specs.Decode.{grains}
 use Rattle.slices.specs.Slices.{memoryOf}
 use Rattle.header.specs.Turned.{turned, grains-few}
 use Rattle.header.specs.Told.{link-leads, link-only}
-use Rattle.free_list.specs.Lent.{lent, noLink, link, below-none, link-none, link-some, link-grain, link-past}
+use Rattle.free_list.specs.Lent.{lent, noLink, link, link-none, link-some, link-grain, link-past}
 use Rattle.free_list.specs.Back.{told, Back, reading-next, back-told}
 
 -- p is before y in a list of the arena a whose head is h: the code's answer r is that of the check

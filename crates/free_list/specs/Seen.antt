@@ -1,30 +1,23 @@
 -- What the checks of an entry and of a head answer, in words of the arena. Each law is one return of the code.
-use Prim.Native.Nat.{ℕ, suc, _+_, _*_, _≤_, _<_}
-use native.Mathlib.Omega.{arith}
+use Prim.Native.Nat.{ℕ, _+_, _*_, _<_}
 use mathlib.Core.Path.{_≡_, refl, ap, sym, _∙_}
-use mathlib.Core.Bool.{Bool, true, false, not}
+use mathlib.Core.Bool.{Bool, true, false}
 use mathlib.Core.List.{List}
-use mathlib.Core.Logic.{⊎-elim}
 use lib.ListN.{length}
-use lib.Dec.{eqb}
-use borrow.Author.Tests.{eq-eqb, ne-eqb}
-use Rattle.choice.specs.Choice.{ifEq, eq-yes, eq-no, same?}
-use Rattle.choice.specs.Says.{Says}
 use Rattle.word.specs.Word.{wordAt}
 use Rattle.table.specs.Table.{entry}
-use Rattle.bits.specs.Map.{mapWords, lists, mapBit, map-bit-lt}
-use Rattle.script.specs.Memory.{Memory, Next, Prev, Mark, none, root}
-use Rattle.script.specs.Script.{Script, Result, ok, no, run, _>>=_, _>>_, mustEq, goes, halts, reads, done, gives-done, gives-eq, gives-le, halts-eq, halts-le}
-use Rattle.sound.specs.Checks.{mustGrain, mustLead, mustBack, seePrev, seeEntry, seeHead}
+use Rattle.bits.specs.Map.{mapWords, lists, mapBit}
+use Rattle.script.specs.Memory.{Memory, Next, Prev, Mark, root}
+use Rattle.script.specs.Script.{Result, ok, run, _>>_, mustEq, goes, halts, reads, done, gives-done, gives-eq, halts-eq}
+use Rattle.sound.specs.Checks.{mustBack, seePrev, seeEntry, seeHead}
 use Rattle.sound.specs.Checks.{Entry as Neighbours}
-use Rattle.slices.specs.Decode.{grains, wrongLink}
-use Rattle.slices.specs.Arena.{linkAt, link-in}
+use Rattle.slices.specs.Decode.{grains}
+use Rattle.slices.specs.Arena.{link-in}
 use Rattle.slices.specs.Heads.{next-root, head-in}
 use Rattle.slices.specs.Slices.{memoryOf, memory-next, memory-mark}
-use Rattle.header.specs.Turned.{turned}
 use Rattle.free_list.specs.declared.Entry.{Entry}
 use Rattle.free_list.specs.declared.Head.{Head}
-use Rattle.free_list.specs.Lent.{lent, noLink, link, below-none, link-none, link-some, link-grain, link-past}
+use Rattle.free_list.specs.Lent.{lent, link}
 use Rattle.free_list.specs.Back.{answer, told, Back, reading-next, reading-prev, back-yes, back-no}
 use Rattle.free_list.specs.Place.{Placed}
 

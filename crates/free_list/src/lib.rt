@@ -5,11 +5,15 @@ ghost use Prim.Native.Nat.{_+_, _*_, _≤_, _<_};
 ghost use Rattle.choice.specs.Says.{Says};
 ghost use Rattle.table.specs.Table.{entry};
 ghost use Rattle.bits.specs.Map.{mapWords};
+ghost use Rattle.word.specs.Word.{putAt};
+ghost use Rattle.sound.specs.Links.{unlinkWrites, pushWrites};
 ghost use Rattle.slices.specs.Decode.{grains};
-ghost use Rattle.free_list.specs.Lent.{Room};
+ghost use Rattle.free_list.specs.Lent.{noLink, link, Leads, Room};
 ghost use Rattle.free_list.specs.Back.{Back};
 ghost use Rattle.free_list.specs.Place.{Placed};
 ghost use Rattle.free_list.specs.Seen.{SeenEntry, SeenHead};
+ghost use Rattle.free_list.specs.Written.{Written};
+ghost use Rattle.free_list.specs.Moves.{joinNext, joinPrev, joinHead};
 
 // The fields of a header that link a free block to its neighbours in the list.
 const NEXT: usize = 2;
@@ -62,6 +66,27 @@ pub fn see_entry(a: &[u8], lists: &[u64], k: usize, y: usize) -> Entry
     Entry { ok, next, prev }
 }
 
+// The head of list k, before which another is to be put.
+pub fn see_head(a: &[u8], lists: &[u64], k: usize) -> Head
+    requires { ⌜ Room k (now lists) ⌝ }
+    ensures { λ r. ⌜ SeenHead (now (a .entry)) (now (lists .entry)) k r ⌝ }
+{
+    let word = head_of(lists, k);
+    let marked = bits::is_marked(lists, k);
+    if word == NONE {
+        return Head { ok: !marked, word };
+    }
+    if !marked {
+        return Head { ok: false, word };
+    }
+    let g = header::grain_of(word);
+    if header::count(a) <= g {
+        return Head { ok: false, word };
+    }
+    let ok = header::field(a, g, PREV) == NONE;
+    Head { ok, word }
+}
+
 // The word of the head of list k.
 fn head_of(lists: &[u64], k: usize) -> u64
     requires { ⌜ Room k (now lists) ⌝ }
@@ -101,4 +126,83 @@ fn leads_back(a: &[u8], f: usize, x: u64, y: usize) -> bool
         return false;
     }
     header::leads(a, g, f, y)
+}
+
+// ---- writes
+
+// A block of list k, with x behind it and p before it, is taken out of the list.
+pub fn unlink(a: &mut [u8], lists: &mut [u64], k: usize, x: u64, p: u64)
+    requires { ⌜ Room k (now lists) × Leads (now a) x × Leads (now a) p ⌝ }
+    ensures { λ r. ⌜ Written (now (a .entry)) (now (lists .entry))
+        (unlinkWrites k (link (now (a .entry)) x) (link (now (a .entry)) p))
+        (now (a .exit)) (now (lists .exit)) ⌝ }
+{
+    join_next(a, lists, k, x, p);
+    join_prev(a, lists, k, x, p);
+}
+
+// What is before the block, p or the head of list k, leads to x.
+fn join_next(a: &mut [u8], lists: &mut [u64], k: usize, x: u64, p: u64)
+    requires { ⌜ Room k (now lists) × Leads (now a) x × Leads (now a) p ⌝ }
+    ensures { λ r. ⌜ Written (now (a .entry)) (now (lists .entry))
+        (joinNext k (link (now (a .entry)) x) (link (now (a .entry)) p))
+        (now (a .exit)) (now (lists .exit)) ⌝ }
+{
+    if p == NONE {
+        table::store(lists, MAP_WORDS + k, x);
+        return;
+    }
+    header::put_field(a, header::grain_of(p), NEXT, x);
+}
+
+// What is behind it, x, leads back to p; where nothing is beside it, the list is not marked any more.
+fn join_prev(a: &mut [u8], lists: &mut [u64], k: usize, x: u64, p: u64)
+    requires { ⌜ Room k (now lists) × Leads (now a) x × Leads (now a) p ⌝ }
+    ensures { λ r. ⌜ Written (now (a .entry)) (now (lists .entry))
+        (joinPrev k (link (now (a .entry)) x) (link (now (a .entry)) p))
+        (now (a .exit)) (now (lists .exit)) ⌝ }
+{
+    if x != NONE {
+        header::put_field(a, header::grain_of(x), PREV, p);
+        return;
+    }
+    if p != NONE {
+        return;
+    }
+    bits::unmark(lists, k);
+}
+
+// Block y is put at the head of list k, before h.
+pub fn push(a: &mut [u8], lists: &mut [u64], k: usize, y: usize, h: u64)
+    requires { ⌜ (y < grains 8 (now a)) × Room k (now lists) × Leads (now a) h ⌝ }
+    ensures { λ r. ⌜ Written (now (a .entry)) (now (lists .entry))
+        (pushWrites k y (link (now (a .entry)) h))
+        (now (a .exit)) (now (lists .exit)) ⌝ }
+{
+    join_head(a, lists, k, y, h);
+    put_entry(a, y, h);
+    table::store(lists, MAP_WORDS + k, header::bytes_of(y));
+}
+
+// The old head h leads back to y; where there is none, the list is marked.
+fn join_head(a: &mut [u8], lists: &mut [u64], k: usize, y: usize, h: u64)
+    requires { ⌜ (y < grains 8 (now a)) × Room k (now lists) × Leads (now a) h ⌝ }
+    ensures { λ r. ⌜ Written (now (a .entry)) (now (lists .entry))
+        (joinHead k y (link (now (a .entry)) h))
+        (now (a .exit)) (now (lists .exit)) ⌝ }
+{
+    if h == NONE {
+        bits::mark(lists, k);
+        return;
+    }
+    header::put_field(a, header::grain_of(h), PREV, header::bytes_of(y));
+}
+
+// Nothing before block y, and h behind it.
+fn put_entry(a: &mut [u8], y: usize, h: u64)
+    requires { ⌜ y < grains 8 (now a) ⌝ }
+    ensures { λ r. ⌜ now (a .exit) ≡ putAt 8 (putAt 8 (now (a .entry)) (4 * y + 3) noLink) (4 * y + 2) h ⌝ }
+{
+    header::put_field(a, y, PREV, NONE);
+    header::put_field(a, y, NEXT, h);
 }

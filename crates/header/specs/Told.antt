@@ -2,16 +2,16 @@
 -- by which the code finds out.
 use Prim.Native.Nat.{ℕ, _+_, _-_, _*_, _/_, _%_, _≤_, _<_}
 use native.Mathlib.Omega.{arith}
-use mathlib.Core.Path.{_≡_, refl, ap, sym, _∙_, subst}
+use mathlib.Core.Path.{_≡_, refl, ap, sym, _∙_}
 use mathlib.Core.Bool.{Bool, true, false, not}
 use lib.Dec.{eqb}
 use lib.ListN.{length}
 use borrow.Author.Tests.{eq-eqb, ne-eqb}
 use mathlib.Core.List.{List}
-use mathlib.Core.Logic.{_⊎_, inl, inr, ⊎-elim}
-use Rattle.choice.specs.Choice.{ifEq, ifLe, eq-yes, eq-no, le-yes, le-no, eq-case, le-case, same?, le?}
+use mathlib.Core.Logic.{_⊎_, ⊎-elim}
+use Rattle.choice.specs.Choice.{ifEq, eq-yes, eq-no, le-yes, eq-case, le-case, same?}
 use Rattle.word.specs.Word.{wordAt}
-use Rattle.script.specs.Memory.{none, freeWord, usedWord, lastWord}
+use Rattle.script.specs.Memory.{none, freeWord, usedWord}
 use Rattle.sound.specs.Checks.{Word, isFree, isUsed, isLast, isBad, wordOf}
 use Rattle.sound.specs.Seen.{word-free, word-used, word-last}
 use Rattle.slices.specs.Decode.{sizeOf, linkOf, wrongSize, decoded-used, grains, topOf}

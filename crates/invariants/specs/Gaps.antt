@@ -1,14 +1,14 @@
 -- Gaps, the grains that were not given: in front of a list and behind the blocks before; and the spot of n gaps from
 -- grain g on, which a region of n grains needs.
-use Prim.Native.Nat.{ℕ, zero, suc, _+_, _-_, _≤_, _<_}
+use Prim.Native.Nat.{ℕ, zero, suc, _+_, _≤_, _<_}
 use native.Mathlib.Omega.{arith}
 use native.Mathlib.Nat.{zero-add, suc-add, add-zero}
 use mathlib.Core.Path.{_≡_, refl, ap, sym, _∙_, subst}
 use mathlib.Core.List.{List, [], _∷_}
 use mathlib.Core.Logic.{_⊎_, inl, inr, ⊎-elim}
-use Rattle.choice.specs.Choice.{ifEq, eq-case, le?}
+use Rattle.choice.specs.Choice.{eq-case, le?}
 use Rattle.definition.specs.Blocks.{Block, free, used, last, gap, size, total, _⟨⟩_, Place, find, offset, gaps, bare, without}
-use Rattle.invariants.specs.Order.{Side, out, sideL, Whole, some, Ordered, OrderedL, order-split, total-zip, BlockAt, LeftAt, at-split, at-join, at-low, left-lt, Stands, stands-at, offset-at}
+use Rattle.invariants.specs.Order.{Side, out, sideL, Whole, some, Ordered, OrderedL, order-split, total-zip, BlockAt, LeftAt, at-split, at-join, at-low, left-lt, stands-at, offset-at}
 use Rattle.invariants.specs.Moves.{free-gap}
 
 -- ---- gaps, in front of a list and behind the blocks before

@@ -1,9 +1,9 @@
 -- Members of the free lists: what a push and a drop do to them.
-use Prim.Native.Nat.{ℕ, zero, suc, _+_, _≤_, _<_}
-use mathlib.Core.Path.{_≡_, refl, ap, sym, _∙_, subst}
+use Prim.Native.Nat.{ℕ, _+_}
+use mathlib.Core.Path.{_≡_, refl, ap, sym, _∙_}
 use mathlib.Core.List.{List, [], _∷_, _++_}
 use mathlib.Core.Logic.{_⊎_, inl, inr, ⊎-elim}
-use Rattle.choice.specs.Choice.{ifEq, eq-yes, eq-no, upd, upd-same, upd-other, upd-each, same?}
+use Rattle.choice.specs.Choice.{eq-yes, eq-no, upd-each, same?}
 use Rattle.definition.specs.Lists.{Lists, remove, push, drop}
 
 abbrev pub Mem : ℕ → List ℕ → Type 0

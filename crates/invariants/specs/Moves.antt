@@ -1,18 +1,18 @@
 -- What holds of every heap (`Ok`), and the moves of which all calls are made. Each move keeps it.
-use Prim.Native.Nat.{ℕ, zero, suc, _+_, _-_, _*_, _≤_, _<_}
+use Prim.Native.Nat.{ℕ, _+_, _≤_, _<_}
 use native.Mathlib.Omega.{arith}
 use native.Mathlib.Nat.{add-assoc}
-use mathlib.Core.Path.{_≡_, refl, ap, sym, _∙_, subst}
+use mathlib.Core.Path.{_≡_, refl, ap, sym, subst}
 use mathlib.Core.List.{List, [], _∷_}
 use mathlib.Core.Logic.{_⊎_, inl, inr, ⊎-elim}
-use Rattle.choice.specs.Choice.{upd, upd-same, upd-other}
+use Rattle.choice.specs.Choice.{upd-same}
 use Rattle.class.specs.Class.{listOf}
-use Rattle.definition.specs.Blocks.{Block, free, used, last, gap, size, total, _⟨⟩_, gaps}
-use Rattle.definition.specs.Lists.{Lists, push, drop, remove}
+use Rattle.definition.specs.Blocks.{Block, free, used, last, gap, total, _⟨⟩_}
+use Rattle.definition.specs.Lists.{Lists, push, drop}
 use Rattle.definition.specs.Calls.{Heap}
-use Rattle.invariants.specs.Order.{Side, out, busy, idle, side, sideL, Fits, Inside, Whole, Ordered, OrderedL, order-split, order-join, BlockAt, LeftAt, at-split, at-join, at-here, at-low, left-lt, used-fits, some}
-use Rattle.invariants.specs.Members.{Mem, NoDup, Apiece, mem-drop, mem-dropped, dropped, apiece-drop, mem-push, mem-pushed, apiece-push}
-use Rattle.invariants.specs.Pieces.{Piece, pieces, pieces-behind, Listed}
+use Rattle.invariants.specs.Order.{out, busy, idle, sideL, Fits, Inside, Ordered, OrderedL, order-split, order-join, BlockAt, LeftAt, at-split, at-join, at-here, at-low, left-lt, used-fits, apart, Apart, same, before, behind, at-whole}
+use Rattle.invariants.specs.Members.{Mem, Apiece, mem-drop, mem-dropped, dropped, apiece-drop, mem-push, mem-pushed, apiece-push}
+use Rattle.invariants.specs.Pieces.{pieces, pieces-behind, Listed}
 
 -- each list holds exactly the free blocks of its class, each once
 pub record Exact (xs : List Block) (f : Lists) : Type 0 where
@@ -45,6 +45,15 @@ used-at l r s d t w p h = go (at-split (total l) (free t) l (used s d ∷ r) h)
     go (inl h) = omega (arith, left-lt (total l) (free t) l w h)
     go (inr (inl h)) = free-used (h .1)
     go (inr (inr h)) = omega (arith, at-low (total l) (free t) (total l + s) r h)
+
+-- no grain of a used block is in a list
+pub used-unlisted : (c : ℕ) (xs : List Block) (f : Lists) (y s d : ℕ) → Sane c xs f → BlockAt y (used s d) 0 xs → (u : ℕ) → y ≤ u → u < y + s → (k : ℕ) → Mem u (f k) → ⊥
+used-unlisted c xs f y s d o h u p q k i = let g = o .exact .there k u i in go (g .0) (g .1) (apart y u 0 (used s d) (free (g .0)) xs h (g .1))
+  where
+    go : (t : ℕ) → BlockAt u (free t) 0 xs → Apart y (used s d) u (free t) → ⊥
+    go t b (same a e) = free-used e
+    go t b (before a) = omega arith
+    go t b (behind a) = omega (arith, at-whole u (free t) 0 out xs (o .order) b)
 
 module _ (c : ℕ) (f : Lists) (l r : List Block) (s d : ℕ) where
   -- occupy: a free block becomes used, and leaves its list

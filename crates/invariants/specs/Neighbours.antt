@@ -1,17 +1,15 @@
 -- A used block swallows the free blocks beside it, and leaves what it doesn't need: of these steps return, take and
 -- resize are made. Each keeps what holds of every heap.
-use Prim.Native.Nat.{ℕ, zero, suc, _+_, _-_, _*_, _≤_, _<_}
+use Prim.Native.Nat.{ℕ, _+_, _-_, _≤_}
 use native.Mathlib.Omega.{arith}
 use native.Mathlib.Nat.{add-zero, zero-add}
-use mathlib.Core.Path.{_≡_, refl, ap, sym, _∙_, subst}
+use mathlib.Core.Path.{_≡_, refl}
 use mathlib.Core.List.{List, [], _∷_}
-use mathlib.Core.Logic.{_⊎_, inl, inr, ⊎-elim}
-use Rattle.choice.specs.Choice.{ifEq, eq-case}
-use Rattle.class.specs.Class.{listOf}
-use Rattle.definition.specs.Blocks.{Block, free, used, last, gap, size, total, _⟨⟩_, room, past}
-use Rattle.definition.specs.Lists.{Lists, push, drop, skip}
-use Rattle.definition.specs.Calls.{Heap, leave, join}
-use Rattle.invariants.specs.Order.{Side, out, busy, idle, side, sideL, Fits, Inside, first-half, Whole, Ordered, OrderedL, order-split}
+use Rattle.choice.specs.Choice.{eq-case}
+use Rattle.definition.specs.Blocks.{Block, free, used, last, gap, total, _⟨⟩_, room, past}
+use Rattle.definition.specs.Lists.{Lists, skip}
+use Rattle.definition.specs.Calls.{leave, join}
+use Rattle.invariants.specs.Order.{Side, out, busy, idle, sideL, Fits, Inside, first-half, Ordered, OrderedL, order-split}
 use Rattle.invariants.specs.Moves.{Sane, Ok, occupy, vacate, fuse, part, replace}
 
 -- ---- what stands beside

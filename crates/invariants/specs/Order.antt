@@ -1,12 +1,12 @@
 -- Which lists of blocks there are: a piece is a row of blocks with no two free neighbours, and its sentinel behind them.
 -- `Ordered` says it of a list from somewhere on, `OrderedL` of the blocks before, nearest first.
-use Prim.Native.Nat.{ℕ, zero, suc, _+_, _*_, _%_, _≤_, _<_}
+use Prim.Native.Nat.{ℕ, _+_, _*_, _%_, _≤_, _<_}
 use native.Mathlib.Omega.{arith}
 use mathlib.Core.Path.{_≡_, refl, ap, sym, _∙_, subst}
 use mathlib.Core.List.{List, [], _∷_}
-use mathlib.Core.Logic.{_⊎_, inl, inr, ⊎-elim}
-use Rattle.choice.specs.Choice.{ifEq, eq-yes, eq-no}
-use Rattle.definition.specs.Blocks.{Block, free, used, last, gap, size, total, _⟨⟩_, Place, find, offset, payload, room, past}
+use mathlib.Core.Logic.{_⊎_, inl, inr}
+use Rattle.choice.specs.Choice.{eq-yes, eq-no}
+use Rattle.definition.specs.Blocks.{Block, free, used, last, gap, size, total, _⟨⟩_, find, offset, payload}
 
 -- what stands before a block: nothing of its piece, a used block, a free one
 pub data Side : Type 0 where

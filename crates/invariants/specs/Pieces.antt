@@ -1,14 +1,12 @@
 -- What a list of blocks leaves when the blocks inside each piece are forgotten: its pieces, by their grains without the
 -- sentinel, and the gaps. Take, return and resize leave it as it was: so every grain of a region stays accounted for,
 -- between the same two sentinels, and nobody gets a grain that was not given.
-use Prim.Native.Nat.{ℕ, zero, suc, _+_, _^_, _≤_, _<_}
+use Prim.Native.Nat.{ℕ, _+_, _^_, _<_}
 use native.Mathlib.Omega.{arith}
-use native.Mathlib.Nat.{add-assoc}
-use mathlib.Core.Path.{_≡_, refl, ap, sym, _∙_, subst}
+use mathlib.Core.Path.{_≡_, ap}
 use mathlib.Core.List.{List, [], _∷_}
-use mathlib.Core.Logic.{_⊎_, inl, inr, ⊎-elim}
-use Rattle.definition.specs.Blocks.{Block, free, used, last, gap, size, total, _⟨⟩_}
-use Rattle.invariants.specs.Order.{Side, out, busy, idle, side, sideL, Ordered, Whole}
+use Rattle.definition.specs.Blocks.{Block, free, used, last, gap, _⟨⟩_}
+use Rattle.invariants.specs.Order.{Side, out, busy, idle, Ordered}
 
 pub data Piece : Type 0 where
   piece : ℕ → Piece

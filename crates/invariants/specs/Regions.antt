@@ -1,19 +1,19 @@
 -- Giving a region keeps what holds of every heap: gaps become pieces, one after the other, and no grain is lost.
-use Prim.Native.Nat.{ℕ, zero, suc, _+_, _-_, _*_, _^_, _≤_, _<_, min}
+use Prim.Native.Nat.{ℕ, zero, suc, _+_, _-_, _^_, _≤_, _<_, min}
 use native.Mathlib.Omega.{arith}
 use mathlib.Core.Path.{_≡_, refl, ap, sym, _∙_, subst}
 use mathlib.Core.List.{List, [], _∷_}
-use mathlib.Core.Logic.{_⊎_, inl, inr, ⊎-elim}
+use mathlib.Core.Logic.{inl, inr}
 use lib.Pow.{pow-pos}
-use Rattle.choice.specs.Choice.{ifEq, ifLe, eq-case, le-case, le-yes, le-no}
+use Rattle.choice.specs.Choice.{le-case, le-yes, le-no}
 use Rattle.class.specs.Class.{listOf}
-use Rattle.definition.specs.Blocks.{Block, free, used, last, gap, size, total, _⟨⟩_, Place, find, offset, gaps, bare, without}
+use Rattle.definition.specs.Blocks.{Block, free, used, last, gap, total, _⟨⟩_, find, offset, gaps, bare, without}
 use Rattle.definition.specs.Lists.{Lists, push}
-use Rattle.definition.specs.Calls.{Heap, Refusal, Answer, refused, granted, Laid, lay, insertAt, insert, appendAt, append, noRegion}
-use Rattle.invariants.specs.Order.{Side, out, busy, idle, side, sideL, Fits, first-half, used-fits, Ordered, OrderedL, order-split, total-zip, BlockAt, LeftAt}
+use Rattle.definition.specs.Calls.{Heap, Answer, refused, granted, Laid, lay, insertAt, insert, appendAt, append, noRegion}
+use Rattle.invariants.specs.Order.{Side, out, busy, idle, sideL, Fits, first-half, used-fits, Ordered, order-split, total-zip, LeftAt}
 use Rattle.invariants.specs.Gaps.{total-gaps, gaps-add, gaps-zip, bare-gaps, gaps-bare, gaps-without, gaps-order, gaps-free, free-gaps, gap-free, gap-last, Spot, find-spot, bare-spot, find-parts}
 use Rattle.invariants.specs.Pieces.{pieces, Listed}
-use Rattle.invariants.specs.Moves.{Sane, Ok, recast, vacate, free-used, free-last, free-gap}
+use Rattle.invariants.specs.Moves.{Sane, Ok, recast, vacate, free-used, free-last}
 
 -- ---- a piece in the place of gaps
 

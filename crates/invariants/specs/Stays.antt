@@ -1,18 +1,16 @@
 -- Every call keeps what holds of every heap (T8), and take, return and resize keep the pieces: no grain of a region is lost,
 -- and none is won. Said once for every answer: a refusal changes nothing, and what is granted is so.
-use Prim.Native.Nat.{ℕ, zero, suc, _+_, _-_, _*_, _≤_, _<_}
+use Prim.Native.Nat.{ℕ, _+_, _-_, _≤_}
 use native.Mathlib.Omega.{arith}
-use native.Mathlib.Nat.{add-assoc, add-zero, zero-add}
+use native.Mathlib.Nat.{add-assoc, add-zero}
 use mathlib.Core.Path.{_≡_, refl, ap, sym, _∙_, subst}
 use mathlib.Core.List.{List, [], _∷_}
-use mathlib.Core.Logic.{_⊎_, inl, inr, ⊎-elim}
-use Rattle.choice.specs.Choice.{ifEq, ifLe, eq-case, le-case}
-use Rattle.class.specs.Class.{listOf}
-use Rattle.definition.specs.Blocks.{Block, free, used, last, gap, size, total, _⟨⟩_, room, past, Place, payload}
+use Rattle.choice.specs.Choice.{eq-case, le-case}
+use Rattle.definition.specs.Blocks.{Block, free, used, last, gap, total, _⟨⟩_, room, past, Place, payload}
 use Rattle.definition.specs.Lists.{Lists, skip, drop, Found, nothing, found}
 use Rattle.definition.specs.Calls.{Heap, Answer, refused, granted, leave, join, place, keeps, take, takeAt, giveBackAt, giveBack, answering, backAfter, elsewhere, down, resizeAt, resize}
-use Rattle.invariants.specs.Order.{Inside, Ordered, order-split}
-use Rattle.invariants.specs.Pieces.{Piece, pieces, pieces-behind}
+use Rattle.invariants.specs.Order.{Inside, order-split}
+use Rattle.invariants.specs.Pieces.{pieces, pieces-behind}
 use Rattle.invariants.specs.Moves.{Sane, Ok}
 use Rattle.invariants.specs.Neighbours.{order-past, swallow-behind, swallow, join-ok, leave-ok}
 use Rattle.invariants.specs.Placing.{Align, align-pos, place-some, place-inside, keeps-some, keeps-holds, keeps-wanted}

@@ -1,8 +1,8 @@
 -- Locality: a script's answer hangs on the words that it reads, and on no other. So damage stays where it is.
-use Prim.Native.Nat.{ℕ, zero, suc, _+_, _≤_, _<_}
-use mathlib.Core.Path.{_≡_, refl, ap, sym, _∙_, subst}
-use mathlib.Core.List.{List, [], _∷_}
-use mathlib.Core.Logic.{_⊎_, inl, inr, ⊎-elim}
+use Prim.Native.Nat.{ℕ, _+_, _≤_, _<_}
+use mathlib.Core.Path.{_≡_, refl, ap, sym, _∙_}
+use mathlib.Core.List.{List}
+use mathlib.Core.Logic.{_⊎_, inl, inr}
 use Rattle.bits.specs.First.{firstSet, first-agree}
 use Rattle.script.specs.Memory.{Memory, Mark, Write, apply, latest, apply-is}
 use Rattle.script.specs.Script.{Script, read, first, done, stop, run}

@@ -8,12 +8,11 @@
 --   Live    for each half grain, 1 where a live payload starts
 --   Table   the regions: their number, then a first grain and an end for each
 -- A link that can't be right, outside the arena or between grains, is a number from the arena's length on, but not none.
-use Prim.Native.Nat.{ℕ, zero, suc, _+_, _*_, _≤_, _<_}
-use mathlib.Core.Path.{_≡_, refl, ap, sym, _∙_, subst}
+use Prim.Native.Nat.{ℕ, zero, suc, _+_, _*_}
+use mathlib.Core.Path.{_≡_, refl, ap, sym, _∙_}
 use mathlib.Core.List.{List, [], _∷_, _++_}
-use mathlib.Core.Logic.{_⊎_, inl, inr, ⊎-elim}
 use lib.ListN.{length}
-use Rattle.choice.specs.Choice.{ifEq, upd, upd-same, upd-other, eq-yes, eq-no, same?}
+use Rattle.choice.specs.Choice.{ifEq, upd, eq-no}
 
 abbrev pub Memory : Type 0
 Memory = ℕ → ℕ → ℕ

@@ -1,20 +1,20 @@
 -- Lent tables that are long enough (`Ample`): then every write of a plan can be stored, on any memory, damaged or not. So a plan
 -- that was not refused stays inside the slices.
-use Prim.Native.Nat.{ℕ, suc, _+_, _*_, _≤_, _<_}
+use Prim.Native.Nat.{ℕ, _+_, _*_, _≤_, _<_}
 use native.Mathlib.Omega.{arith}
-use mathlib.Core.Path.{_≡_, refl, sym, subst}
+use mathlib.Core.Path.{sym, subst}
 use mathlib.Core.List.{List, [], _∷_}
-use mathlib.Core.Logic.{_⊎_, inl, inr, ⊎-elim}
+use mathlib.Core.Logic.{inl, inr, ⊎-elim}
 use lib.ListN.{length}
 use Rattle.choice.specs.Choice.{le?}
 use Rattle.bits.specs.Map.{mapWords}
 use Rattle.bits.specs.Map.{lists as listCount}
-use Rattle.script.specs.Memory.{Memory, Size, Before, Next, Prev, Mark, Live, root, Write, freeWord, usedWord, lastWord}
+use Rattle.script.specs.Memory.{Write}
 use Rattle.sound.specs.Checks.{Word, isFree, isUsed, isLast, isBad, wordOf}
-use Rattle.sound.specs.Writable.{Fits, Decoded, Link, SizeWord, freeSize, usedSize, sentinel, NextPlace, Writable, atSize, atBefore, atNext, atPrev, atMark, atLive, AllWritable}
+use Rattle.sound.specs.Writable.{Fits, Decoded, SizeWord, freeSize, usedSize, sentinel, Writable, atSize, atBefore, atNext, atPrev, atMark, atLive, AllWritable}
 use Rattle.slices.specs.Decode.{ValidSize, valid-free, valid-used, valid-last, grains, Inside, wrongSize}
 use Rattle.slices.specs.Arena.{sizeAt, size-inside, size-out}
-use Rattle.slices.specs.Slices.{Slices, memoryOf, memory-size, Bit, Root, Valid, AllValid}
+use Rattle.slices.specs.Slices.{Slices, memoryOf, memory-size, Bit, Valid, AllValid}
 
 -- a wrong word says nothing
 wrong-fits : (n x : ℕ) → Fits n x (wordOf wrongSize)

@@ -1,6 +1,6 @@
 -- The arena's words as fields of its grains: word 4 * g + f is field f of grain g. A field read (`sizeAt`, `linkAt`), a
 -- field stored (`putSize`, `putLink`), and that storing one changes that one alone.
-use Prim.Native.Nat.{ℕ, suc, _+_, _-_, _*_, _≤_, _<_}
+use Prim.Native.Nat.{ℕ, suc, _+_, _*_, _≤_, _<_}
 use native.Mathlib.Nat.{mul-le-mul-left, mul-add, mul-one, mul-assoc, mul-comm}
 use native.Mathlib.Omega.{arith}
 use mathlib.Core.Path.{_≡_, ap, sym, _∙_}

@@ -1,11 +1,11 @@
 -- The free lists in memory: `nx` is the field Next and `pv` the field Prev. A head is a node like any other, so taking a
 -- block out of a list knows no special case. Nodes are grains and roots; a chain ends with none.
-use Prim.Native.Nat.{ℕ, zero, suc, _+_, _≤_, _<_}
+use Prim.Native.Nat.{ℕ, _+_, _<_}
 use native.Mathlib.Omega.{arith}
 use mathlib.Core.Path.{_≡_, refl, ap, sym, _∙_, subst}
 use mathlib.Core.List.{List, [], _∷_, _++_}
 use mathlib.Core.Logic.{_⊎_, inl, inr, ⊎-elim}
-use Rattle.choice.specs.Choice.{ifEq, eq-yes, eq-no, upd, upd-same, upd-other, upd-each, same?}
+use Rattle.choice.specs.Choice.{eq-yes, eq-no, upd, upd-same, upd-other, upd-each}
 use Rattle.definition.specs.Lists.{Lists, remove, push, drop}
 use Rattle.invariants.specs.Members.{Mem, NoDup, Parts, parts, Apiece}
 use Rattle.script.specs.Memory.{none, root}

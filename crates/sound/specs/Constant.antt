@@ -1,16 +1,16 @@
 -- Constant cost: on any memory, damaged or not, take, return and resize read at most so many words, search the map at most
 -- once, and write at most so many words. The numbers are in the statements.
-use Prim.Native.Nat.{ℕ, zero, suc, _+_, _-_, _*_, _%_, _≤_, _<_}
+use Prim.Native.Nat.{ℕ, suc, _+_, _-_, _*_, _%_, _≤_}
 use native.Mathlib.Omega.{arith}
-use mathlib.Core.List.{List, [], _∷_, _++_}
+use mathlib.Core.List.{List, _∷_}
 use lib.ListN.{length, length-append}
-use Rattle.choice.specs.Choice.{ifEq, ifLe, eq-case, le-case}
-use Rattle.class.specs.Class.{listOf, startOf}
-use Rattle.definition.specs.Calls.{wanted, place, keeps}
-use Rattle.script.specs.Memory.{Next, Prev, Before, Live, Mark, none, root, Write, _at_≔_, latest}
-use Rattle.script.specs.Script.{Script, read, first, done, _>>=_, _>>_, get, unlessLe, mustEq, over, AtMost, few-eq, few-le, few-then, few-bind, few-after, over-few, Ends, ends-bind, ends-any, ends-over}
-use Rattle.sound.specs.Checks.{wordOf, asFree, asBusy, mustGrain, mustBack, mustList, seeHead, seeBehind, seeBefore, seeOwner, Beside, nobody, somebody, Owner, few-back, few-head, few-behind, few-before, few-owner, few-free, few-busy}
-use Rattle.sound.specs.Plans.{Plan, leaveScript, wholeWrites, splitWrites, padWrites, freeWrites, leaves, afterwards, bothLeave, roomOf, takeScript, joinScript, giveBackScript, elsewhereScript, downScript, moveScript, stretchScript, growScript, resizeScript}
+use Rattle.choice.specs.Choice.{eq-case, le-case}
+use Rattle.class.specs.Class.{listOf}
+use Rattle.definition.specs.Calls.{place, keeps}
+use Rattle.script.specs.Memory.{Next, Prev, none, Write, _at_≔_}
+use Rattle.script.specs.Script.{Script, read, unlessLe, mustEq, over, AtMost, few-eq, few-le, few-then, few-bind, few-after, over-few, Ends, ends-bind, ends-any, ends-over}
+use Rattle.sound.specs.Checks.{wordOf, asFree, asBusy, mustGrain, mustBack, mustList, seeHead, seeBehind, seeBefore, seeOwner, Beside, nobody, somebody, few-back, few-head, few-behind, few-before, few-owner, few-free, few-busy}
+use Rattle.sound.specs.Plans.{Plan, leaveScript, padWrites, leaves, afterwards, bothLeave, roomOf, takeScript, joinScript, giveBackScript, elsewhereScript, downScript, moveScript, stretchScript, growScript, resizeScript}
 use Rattle.sound.specs.Links.{node, unlinkWrites, pushWrites}
 
 -- ---- reads

@@ -1,10 +1,10 @@
 -- The middle of a row: t grains between l and r, whatever blocks they were, become one block, or a used one and a free one.
-use Prim.Native.Nat.{ℕ, zero, suc, _+_, _-_, _*_, _≤_, _<_}
+use Prim.Native.Nat.{ℕ, _+_, _-_, _≤_, _<_}
 use native.Mathlib.Omega.{arith}
-use mathlib.Core.Path.{_≡_, refl, ap, sym, _∙_, subst}
-use mathlib.Core.List.{List, [], _∷_}
+use mathlib.Core.Path.{_≡_, refl, _∙_, subst}
+use mathlib.Core.List.{List, _∷_}
 use Rattle.choice.specs.Choice.{upd, upd-same, upd-other}
-use Rattle.definition.specs.Blocks.{Block, free, used, last, gap, size, total, _⟨⟩_, room, past}
+use Rattle.definition.specs.Blocks.{Block, free, used, total, _⟨⟩_, room, past}
 use Rattle.invariants.specs.Order.{Side, Ordered, OrderedL}
 use Rattle.invariants.specs.Neighbours.{total-past}
 use Rattle.script.specs.Memory.{none, freeWord, usedWord}

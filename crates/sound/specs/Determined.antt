@@ -8,11 +8,11 @@ use mathlib.Core.Logic.{inl, inr, ⊎-elim}
 use Rattle.definition.specs.Blocks.{Block, free, used, last, gap, size, total, _⟨⟩_}
 use Rattle.definition.specs.Lists.{Lists}
 use Rattle.definition.specs.Calls.{Heap}
-use Rattle.invariants.specs.Order.{out, Inside, some, order-split, total-zip, BlockAt, at-here, at-whole, stands-at, Apart, same, before, behind, apart}
+use Rattle.invariants.specs.Order.{out, Inside, some, order-split, total-zip, BlockAt, at-here, at-whole, Apart, same, before, behind, apart}
 use Rattle.invariants.specs.Members.{Mem}
 use Rattle.script.specs.Memory.{Memory, Size, Before, Next, Prev, none, root}
 use Rattle.sound.specs.Row.{Head, linkL, row-split}
-use Rattle.sound.specs.Chain.{Chain, Real}
+use Rattle.sound.specs.Chain.{Chain}
 use Rattle.sound.specs.Sound.{Sound}
 use Rattle.sound.specs.Seen.{lists-real}
 

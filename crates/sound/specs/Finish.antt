@@ -1,16 +1,15 @@
 -- The last writes of a plan: the word before a payload that stands at a grain, and the live bits.
-use Prim.Native.Nat.{ℕ, zero, suc, _+_, _-_, _*_, _/_, _%_, _≤_, _<_}
+use Prim.Native.Nat.{ℕ, _+_, _-_, _/_, _%_}
 use native.Mathlib.Omega.{arith}
 use mathlib.Core.Path.{_≡_, refl, ap, sym, _∙_, subst}
 use mathlib.Core.List.{List, [], _∷_, _++_}
-use mathlib.Core.Logic.{_⊎_, inl, inr, ⊎-elim}
-use Rattle.choice.specs.Choice.{ifEq, eq-yes, eq-no, eq-case, upd, upd-same, upd-other, same?}
-use Rattle.definition.specs.Blocks.{Block, free, used, last, gap}
+use Rattle.choice.specs.Choice.{eq-yes, eq-case, upd-same}
+use Rattle.definition.specs.Blocks.{used, last}
 use Rattle.definition.specs.Lists.{Lists}
 use Rattle.definition.specs.Calls.{Heap}
 use Rattle.invariants.specs.Members.{Mem}
 use Rattle.invariants.specs.Order.{BlockAt}
-use Rattle.invariants.specs.Moves.{Sane, Ok}
+use Rattle.invariants.specs.Moves.{Ok}
 use Rattle.script.specs.Memory.{Memory, Size, Before, Next, Prev, Mark, Live, Table, none, root, Write, _at_≔_, apply, apply-append, apply-alike, apply-untouched, apply-spared, Untouched, Spared, untouched-append, spared-append}
 use Rattle.sound.specs.Row.{Row}
 use Rattle.sound.specs.Chain.{chain-keep}

@@ -1,26 +1,24 @@
 -- `Founded`: Sound without the table of regions. So stands the memory while a region's pieces are laid: its blocks and
 -- lists are in order, but the table doesn't know the region yet.
-use Prim.Native.Nat.{ℕ, suc, _+_, _-_, _*_, _/_, _%_, _≤_, _<_}
+use Prim.Native.Nat.{ℕ, _+_, _-_, _/_, _%_, _≤_, _<_}
 use native.Mathlib.Omega.{arith}
-use mathlib.Core.Path.{_≡_, refl, ap, sym, _∙_, subst}
-use mathlib.Core.List.{List, [], _∷_}
-use mathlib.Core.Logic.{inl}
-use Rattle.choice.specs.Choice.{ifEq, eq-yes, eq-no}
+use mathlib.Core.Path.{_≡_}
+use mathlib.Core.List.{List}
 use Rattle.definition.specs.Blocks.{Block, free, used, total}
 use Rattle.definition.specs.Lists.{Lists}
 use Rattle.definition.specs.Calls.{Heap}
-use Rattle.invariants.specs.Order.{out, some, Ordered, BlockAt, at-whole, Apart, same, before, behind, apart, at-end}
+use Rattle.invariants.specs.Order.{out, BlockAt, at-whole, before, at-end}
 use Rattle.invariants.specs.Members.{Mem}
 use Rattle.invariants.specs.Moves.{Sane}
-use Rattle.script.specs.Memory.{Memory, Size, Before, Next, Prev, Mark, none, root}
-use Rattle.script.specs.Script.{Script, Gives, run, gives-bind, gives-get, gives-eq, gives-done, mustEq, _>>=_, _>>_}
+use Rattle.script.specs.Memory.{Memory, Size, Before, Next, none, root}
+use Rattle.script.specs.Script.{Gives}
 use Rattle.sound.specs.Row.{Row}
-use Rattle.sound.specs.Chain.{Chain, Real}
-use Rattle.sound.specs.Strung.{Strung, Marked}
+use Rattle.sound.specs.Chain.{Real}
+use Rattle.sound.specs.Strung.{Strung}
 use Rattle.sound.specs.Sound.{Lively, Padded, Sound}
-use Rattle.sound.specs.Checks.{mustGrain, mustLead, seeHead}
+use Rattle.sound.specs.Checks.{seeHead}
 use Rattle.sound.specs.Swaps.{pad-inside}
-use Rattle.sound.specs.Seen.{gives-grain, gives-lead, head-strung}
+use Rattle.sound.specs.Seen.{head-strung}
 
 pub record Founded (n c : ℕ) (m : Memory) (xs : List Block) (f : Lists) : Type 0 where
   pub heap : Sane c xs f

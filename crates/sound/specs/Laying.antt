@@ -1,20 +1,20 @@
 -- Laying the pieces of a region: each piece keeps the memory founded, and so do all of them, as the definition lays them.
-use Prim.Native.Nat.{ℕ, zero, suc, _+_, _-_, _*_, _/_, _%_, _^_, _≤_, _<_, min}
+use Prim.Native.Nat.{ℕ, zero, suc, _+_, _-_, _/_, _^_, _≤_, _<_, min}
 use native.Mathlib.Omega.{arith}
-use mathlib.Core.Path.{_≡_, refl, ap, sym, _∙_, subst}
+use mathlib.Core.Path.{_≡_, refl, sym, _∙_, subst}
 use mathlib.Core.List.{List, [], _∷_, _++_}
 use mathlib.Core.Logic.{_⊎_, inl, inr, ⊎-elim}
-use Rattle.choice.specs.Choice.{ifLe, le?, le-yes, le-no, upd, upd-same, upd-other}
+use Rattle.choice.specs.Choice.{ifLe, le?, le-yes, le-no, upd-same, upd-other}
 use Rattle.class.specs.Class.{listOf}
-use Rattle.definition.specs.Blocks.{Block, free, used, last, gap, size, total, _⟨⟩_, gaps}
+use Rattle.definition.specs.Blocks.{Block, free, used, last, gap, total, _⟨⟩_, gaps}
 use Rattle.definition.specs.Lists.{Lists, push}
 use Rattle.definition.specs.Calls.{Laid, lay}
 use Rattle.invariants.specs.Order.{out, sideL, Ordered, order-split, total-zip, BlockAt, LeftAt, at-split, at-join, one-block}
 use Rattle.invariants.specs.Moves.{free-used, free-gap}
 use Rattle.invariants.specs.Gaps.{total-gaps, gaps-add, gaps-zip, gaps-at, gaps-behind, gaps-cases, gap-used}
 use Rattle.invariants.specs.Regions.{piece-ok, two-grains, gap-out}
-use Rattle.script.specs.Memory.{Memory, Size, Before, Next, Prev, Mark, Live, Table, none, root, freeWord, lastWord, Write, _at_≔_, apply, apply-append, Untouched, apply-untouched, untouched-append}
-use Rattle.script.specs.Script.{Script, Gives, run, over, over-run, goes, gives-done, _>>=_}
+use Rattle.script.specs.Memory.{Memory, Size, Before, Next, Live, Table, none, root, freeWord, lastWord, Write, _at_≔_, apply, apply-append, Untouched, apply-untouched, untouched-append}
+use Rattle.script.specs.Script.{Script, Gives, over, over-run, goes, gives-done, _>>=_}
 use Rattle.sound.specs.Row.{Row, Left, linkL, row-split, row-join, left-keep, row-keep}
 use Rattle.sound.specs.Strung.{push-untouched}
 use Rattle.sound.specs.Checks.{seeHead, few-head}

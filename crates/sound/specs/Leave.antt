@@ -1,17 +1,17 @@
 -- Leaving what is not needed, in memory: what `leaveScript` plans turns a memory into one for the definition's `leave`.
-use Prim.Native.Nat.{ℕ, zero, suc, _+_, _-_, _*_, _≤_, _<_}
+use Prim.Native.Nat.{ℕ, _+_, _-_, _*_, _≤_, _<_}
 use native.Mathlib.Omega.{arith}
-use mathlib.Core.Path.{_≡_, refl, ap, sym, _∙_, subst}
-use mathlib.Core.List.{List, [], _∷_, _++_}
-use mathlib.Core.Logic.{_⊎_, inl, inr, ⊎-elim}
+use mathlib.Core.Path.{_≡_, ap, sym, subst}
+use mathlib.Core.List.{List, _∷_, _++_}
+use mathlib.Core.Logic.{⊎-elim}
 use Rattle.choice.specs.Choice.{ifEq, eq-yes, eq-no, upd, same?}
 use Rattle.class.specs.Class.{listOf}
-use Rattle.definition.specs.Blocks.{Block, free, used, last, gap, size, total, _⟨⟩_}
+use Rattle.definition.specs.Blocks.{Block, free, used, total, _⟨⟩_}
 use Rattle.definition.specs.Lists.{Lists, push}
 use Rattle.definition.specs.Calls.{Heap, leave}
-use Rattle.invariants.specs.Order.{Side, idle, Ordered, OrderedL}
-use Rattle.script.specs.Memory.{Memory, Size, Before, Next, Prev, Mark, Live, Table, none, root, usedWord, Write, apply, latest, apply-is, apply-append, apply-untouched}
-use Rattle.script.specs.Script.{Script, done, Gives, gives-bind, gives-done, gives-le}
+use Rattle.invariants.specs.Order.{idle, Ordered, OrderedL}
+use Rattle.script.specs.Memory.{Memory, Size, Before, Next, Prev, Live, Table, none, root, usedWord, Write, apply, latest, apply-is, apply-append, apply-untouched}
+use Rattle.script.specs.Script.{done, Gives, gives-bind, gives-done, gives-le}
 use Rattle.sound.specs.Row.{Row}
 use Rattle.sound.specs.Strung.{Strung}
 use Rattle.sound.specs.Checks.{seeHead, mustList}

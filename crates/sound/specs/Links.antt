@@ -1,5 +1,5 @@
 -- The writes that take a block out of its free list, and that put one at the head of a list.
-use Prim.Native.Nat.{ℕ, suc, _+_}
+use Prim.Native.Nat.{ℕ}
 use mathlib.Core.List.{List, [], _∷_}
 use Rattle.choice.specs.Choice.{ifEq}
 use Rattle.script.specs.Memory.{Next, Prev, Mark, none, root, Write, _at_≔_}

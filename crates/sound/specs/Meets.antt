@@ -4,7 +4,7 @@ use Prim.Native.Nat.{ℕ}
 use mathlib.Core.Path.{_≡_}
 use Rattle.definition.specs.Calls.{Heap, Refusal, noList, notLive, noRegion, Answer, refused, granted}
 use Rattle.script.specs.Memory.{Memory, apply}
-use Rattle.script.specs.Script.{Script, Result, ok, no, run}
+use Rattle.script.specs.Script.{Script, ok, no, run}
 use Rattle.sound.specs.Sound.{Sound}
 use Rattle.sound.specs.Plans.{Plan}
 

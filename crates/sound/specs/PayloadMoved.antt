@@ -22,11 +22,12 @@ use Rattle.sound.specs.Plans.{Plan, bothLeave, padWrites, wholeWrites, s
 use Rattle.sound.specs.Leave.{restWrites, leaveWrites}
 use Rattle.sound.specs.SeenBeside.{Here, beside}
 use Rattle.sound.specs.Skips.{skips-both, not-in-both}
-use Rattle.sound.specs.PayloadWrites.{Spares, spares-append, spares-from, Unlisted, used-unlisted, Off, push-off, after-off}
+use Rattle.sound.specs.PayloadWrites.{Spares, spares-append, spares-from, Unlisted, Off, push-off, after-off}
 use Rattle.sound.specs.PayloadTake.{used-small, take-spares}
 use Rattle.sound.specs.PayloadReturn.{both-off, back-spares}
 use Rattle.sound.specs.ResizeSteps.{between, both, Step, stays, stretches, sinks, moves, step}
 use Rattle.sound.specs.Links.{pushWrites}
+use Rattle.invariants.specs.Moves.{used-unlisted}
 
 -- the payload of the block of s grains at y moves from its place d to one with room for p half grains, which is enough
 pub record Carried (y s d p : ℕ) (t : Plan) : Type 0 where

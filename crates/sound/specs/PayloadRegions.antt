@@ -11,19 +11,21 @@ use Rattle.definition.specs.Lists.{Lists, push}
 use Rattle.definition.specs.Calls.{Heap}
 use Rattle.invariants.specs.Order.{out, BlockAt, LeftAt, at-split, at-low, left-high, at-whole}
 use Rattle.invariants.specs.Members.{Mem, mem-push}
-use Rattle.invariants.specs.Gaps.{Spot, gaps-spot, gaps-add, gaps-cases, gap-used}
+use Rattle.invariants.specs.Gaps.{Spot, gaps-add, gaps-cases, gap-used}
 use Rattle.invariants.specs.Regions.{two-grains}
 use Rattle.script.specs.Memory.{Memory, Next, Table, none, root, Write, _at_≔_, apply, apply-append}
 use Rattle.script.specs.Script.{Gives, ok, no, run, done, stop, goes, over, over-run, inv-bind, inv-get, inv-done, inv-le, unlessLe, mustEq, mustLe}
-use Rattle.sound.specs.Sound.{Sound, InTable}
+use Rattle.sound.specs.Sound.{Sound}
 use Rattle.sound.specs.Checks.{seeHead, few-head}
 use Rattle.sound.specs.Plans.{Plan}
 use Rattle.sound.specs.RegionPlan.{Looked, Layout, pieceWrites, seeRegions, layScript, regionScript}
 use Rattle.sound.specs.Founded.{Founded, sound-founded, founded-real, head-founded}
 use Rattle.sound.specs.Laying.{piece-founded}
-use Rattle.sound.specs.RegionTable.{firstOf, endOf, Overlap, Passed, look}
-use Rattle.sound.specs.PayloadWrites.{Spares, spares-append, spares-from, table-word, push-off, Unlisted, used-unlisted, head-off, Aside, aside-off, aside-edge}
+use Rattle.sound.specs.RegionTable.{Overlap, Passed, look}
+use Rattle.sound.specs.PayloadWrites.{Spares, spares-append, spares-from, table-word, push-off, Unlisted, head-off, Aside, aside-off, aside-edge}
 use Rattle.sound.specs.PayloadTake.{used-small}
+use Rattle.invariants.specs.Moves.{used-unlisted}
+use Rattle.sound.specs.RegionSound.{nothing-seen, clear-spot}
 
 -- ---- pieces
 
@@ -87,26 +89,12 @@ spot-aside g len xs y s d p b = go (at-split y (used s d) (p .before) (gaps len 
         (gaps-cases len y (total (p .before)) (used s d) (p .rest) i)
 
 module _ (n c g len : ℕ) (m : Memory) (h : Heap) (o : Sound n c m h) where
-  -- before the first entry
-  abbrev unseen : Looked
-  unseen = record { meets = 0; wrong = 0 }
-
-  -- grains that lie apart from all regions are not given
-  apart-spot : 1 ≤ len → g + len ≤ n → Passed n g len m (m Table 0) 0 unseen → Spot g len (h .blocks)
-  apart-spot some near p = gaps-spot g len (h .blocks) some (o .heap .order) (λ y u v. ⊎-elim
-      (λ (k : BlockAt y gap 0 (h .blocks)). k)
-      (λ (k : InTable m y). absurd (⊎-elim
-      (λ (a : endOf m (k .0) ≤ g). omega (arith, k .3))
-      (λ (a : g + len ≤ firstOf m (k .0)). omega (arith, k .2))
-      (p .clear (k .0) (omega arith) (omega (arith, k .1)))))
-      (o .given .either y (omega (arith, o .whole))))
-
-  -- so are those that the table lets pass
-  passed-spot : (l : Looked) → 1 ≤ len → g + len ≤ n → Gives m (seeRegions n g len (m Table 0) 0 unseen) l → Spot g len (h .blocks)
+  -- grains that the table lets pass are not given
+  passed-spot : (l : Looked) → 1 ≤ len → g + len ≤ n → Gives m (seeRegions n g len (m Table 0) 0 nothing-seen) l → Spot g len (h .blocks)
   passed-spot l some near k = ⊎-elim
-      (λ (p : (run m (seeRegions n g len (m Table 0) 0 unseen) ≡ no 4) × Overlap m g len). let e = p .0 in let z : _≡_ {A = ℕ} 0 1 = cc in absurd (omega arith))
-      (λ (p : Passed n g len m (m Table 0) 0 unseen). apart-spot some near p)
-      (look n g len m some (λ j u. let i = o .given .sane j u in (i .0, omega (arith, i .1, o .whole))) (m Table 0) 0 unseen (omega arith))
+      (λ (p : (run m (seeRegions n g len (m Table 0) 0 nothing-seen) ≡ no 4) × Overlap m g len). let e = p .0 in let z : _≡_ {A = ℕ} 0 1 = cc in absurd (omega arith))
+      (λ (p : Passed n g len m (m Table 0) 0 nothing-seen). clear-spot n c g len m h o some near p)
+      (look n g len m some (λ j u. let i = o .given .sane j u in (i .0, omega (arith, i .1, o .whole))) (m Table 0) 0 nothing-seen (omega arith))
 
   -- the payload of every used block
   pub region-spares : (most join : ℕ) (t : Plan) (y s d : ℕ) → 1 ≤ c → run m (regionScript most join n c g len) ≡ ok t → BlockAt y (used s d) 0 (h .blocks) → Spares y s d (t .writes)
@@ -117,7 +105,7 @@ module _ (n c g len : ℕ) (m : Memory) (h : Heap) (o : Sound n c m h) where
       let k2 = inv-bind m (unlessLe 4 2 len) _ (k1 .2) in
       let k3 = inv-bind m (unlessLe 4 (g + len) n) _ (k2 .2) in
       let k4 = inv-bind m (mustLe r most) _ (k3 .2) in
-      let k5 = inv-bind m (seeRegions n g len r 0 unseen) _ (k4 .2) in
+      let k5 = inv-bind m (seeRegions n g len r 0 nothing-seen) _ (k4 .2) in
       let k6 = inv-bind m (unlessLe 4 join (k5 .0 .meets)) _ (k5 .2) in
       let k7 = inv-bind m (mustEq (k5 .0 .wrong) 0) _ (k6 .2) in
       let k8 = inv-bind m (layScript n c len [] g len) _ (k7 .2) in

@@ -20,10 +20,11 @@ use Rattle.sound.specs.Plans.{Plan, leaves, bothLeave, elsewhereScript, 
 use Rattle.sound.specs.Leave.{leaveWrites}
 use Rattle.sound.specs.SeenBeside.{Here, beside}
 use Rattle.sound.specs.Skips.{skips-behind, fewer-behind, skips-both, fewer-both}
-use Rattle.sound.specs.PayloadWrites.{Spares, spares-append, spares-from, Unlisted, used-unlisted, Off, Edge, Aside, aside-off, aside-edge, leave-off, after-off, placed-off}
+use Rattle.sound.specs.PayloadWrites.{Spares, spares-append, spares-from, Unlisted, Off, Edge, Aside, aside-off, aside-edge, leave-off, after-off, placed-off}
 use Rattle.sound.specs.PayloadTake.{used-small, free-aside, taking, take-spares}
 use Rattle.sound.specs.PayloadReturn.{owned, both-aside, behind-off, both-off, back-spares}
 use Rattle.sound.specs.ResizeSteps.{between, both, Step, stays, stretches, sinks, moves, step}
+use Rattle.invariants.specs.Moves.{used-unlisted}
 
 -- ---- step 4: a take, and then a return
 

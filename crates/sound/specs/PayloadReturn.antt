@@ -21,10 +21,11 @@ use Rattle.sound.specs.Swaps.{used-place}
 use Rattle.sound.specs.Skips.{skips-behind, fewer-behind, skips-both, fewer-both}
 use Rattle.sound.specs.SeenBeside.{Here, beside, room-seen, owner-seen, behind-seen, before-seen}
 use Rattle.sound.specs.Seen.{lists-real, head-seen, not-owner}
-use Rattle.sound.specs.PayloadWrites.{Spares, spares-append, spares-from, push-off, free-off, Unlisted, used-unlisted, Aside, aside-off, aside-edge, after-off, leaves-off}
+use Rattle.sound.specs.PayloadWrites.{Spares, spares-append, spares-from, push-off, free-off, Unlisted, Aside, aside-off, aside-edge, after-off, leaves-off}
 use Rattle.sound.specs.PayloadTake.{used-small, free-aside}
 use Rattle.invariants.specs.Kept.{kept-join-back}
 use Rattle.sound.specs.Links.{pushWrites}
+use Rattle.invariants.specs.Moves.{used-unlisted}
 
 -- what joinScript plans, where the heads are seen
 join-planned : (n c : ℕ) (m : Memory) (q z t : ℕ) (w : List Write) (p : Plan) → ((j : ℕ) → Gives m (seeHead n j) (m Next (root j))) → Gives m (joinScript n c q z t w) p

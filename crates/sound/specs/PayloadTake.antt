@@ -13,7 +13,7 @@ use Rattle.definition.specs.Calls.{Heap, wanted, place, keeps}
 use Rattle.invariants.specs.Order.{out, BlockAt, Apart, same, before, behind, apart, at-whole, at-end}
 use Rattle.invariants.specs.Members.{Mem, mem-drop}
 use Rattle.invariants.specs.Placing.{Align, align-pos, keeps-wanted, wanted-some, place-some, keeps-holds}
-use Rattle.invariants.specs.Moves.{free-used}
+use Rattle.invariants.specs.Moves.{free-used, used-unlisted}
 use Rattle.script.specs.Memory.{Memory, Before, Next, Prev, Mark, Live, none, root, Write, _at_≔_}
 use Rattle.script.specs.Script.{ok, run, done, Gives, goes, searches, inv-bind, inv-get, inv-done, inv-eq, inv-le, unlessLe, mustEq}
 use Rattle.sound.specs.Chain.{head-is}
@@ -23,7 +23,7 @@ use Rattle.sound.specs.Plans.{Plan, leaveScript, wholeWrites, padWrites,
 use Rattle.sound.specs.Relists.{relists-drop}
 use Rattle.sound.specs.Leave.{restWrites, leaveWrites}
 use Rattle.sound.specs.Seen.{lists-real, head-seen, free-seen}
-use Rattle.sound.specs.PayloadWrites.{Spares, spares-from, used-unlisted, drop-off, Aside, placed-off}
+use Rattle.sound.specs.PayloadWrites.{Spares, spares-from, drop-off, Aside, placed-off}
 use Rattle.sound.specs.Links.{unlinkWrites}
 
 -- what leaveScript plans, where the heads are seen

@@ -10,9 +10,8 @@ use Rattle.choice.specs.Choice.{eq-case}
 use Rattle.class.specs.Class.{listOf}
 use Rattle.definition.specs.Blocks.{Block, free, used, last, gap}
 use Rattle.definition.specs.Lists.{Lists}
-use Rattle.invariants.specs.Order.{out, BlockAt, Apart, same, before, behind, apart, at-whole}
+use Rattle.invariants.specs.Order.{before, behind}
 use Rattle.invariants.specs.Members.{Mem, Apiece}
-use Rattle.invariants.specs.Moves.{Sane, free-used}
 use Rattle.script.specs.Memory.{Memory, Next, Prev, none, root, Write, _at_≔_, latest, apply, apply-is}
 use Rattle.sound.specs.Chain.{Real, node-mem, next-mem, head-is}
 use Rattle.sound.specs.Strung.{Strung}
@@ -96,15 +95,6 @@ module _ (y s : ℕ) where
 -- none of the block's grains is in a list
 abbrev pub Unlisted : Lists → ℕ → ℕ → Type 0
 Unlisted f y s = (u : ℕ) → y ≤ u → u < y + s → NotIn f u
-
--- so it is with every used block
-pub used-unlisted : (c : ℕ) (A : List Block) (f : Lists) (y s d : ℕ) → Sane c A f → BlockAt y (used s d) 0 A → Unlisted f y s
-used-unlisted c A f y s d o h u p q k i = let g = o .exact .there k u i in go (g .0) (g .1) (apart y u 0 (used s d) (free (g .0)) A h (g .1))
-  where
-    go : (t : ℕ) → BlockAt u (free t) 0 A → Apart y (used s d) u (free t) → ⊥
-    go t b (same a e) = free-used e
-    go t b (before a) = omega arith
-    go t b (behind a) = omega (arith, at-whole u (free t) 0 out A (o .order) b)
 
 module _ (m : Memory) (f : Lists) (o : Apiece f) (r : Real f) (st : Strung m f) (y s : ℕ) (small : y + s ≤ none) (un : Unlisted f y s) where
   -- a link to a member, or to none

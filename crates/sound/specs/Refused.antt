@@ -1,6 +1,6 @@
 -- With which numbers the checks refuse, on any memory: a contradiction with 5, a payload that is not live with 3. With
 -- `Checked` it follows that what a check tells is refused with 5 where it doesn't hold.
-use Prim.Native.Nat.{ℕ, suc, _+_, _-_, _*_, _/_, _%_}
+use Prim.Native.Nat.{ℕ, suc, _+_, _*_, _/_, _%_}
 use native.Mathlib.Omega.{arith}
 use mathlib.Core.Path.{_≡_, refl, ap, _∙_, subst}
 use mathlib.Core.List.{List}

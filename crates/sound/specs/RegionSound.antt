@@ -1,6 +1,6 @@
 -- Giving a region does what the definition says: on a sound memory it is refused with 4 exactly where the definition
 -- refuses, and else what is written stands for the heap after the call. Nothing is refused with 5.
-use Prim.Native.Nat.{ℕ, zero, suc, _+_, _-_, _*_, _^_, _≤_, _<_}
+use Prim.Native.Nat.{ℕ, zero, suc, _+_, _-_, _*_, _≤_, _<_}
 use native.Mathlib.Omega.{arith}
 use mathlib.Core.Path.{_≡_, refl, ap, sym, _∙_, subst}
 use mathlib.Core.List.{List, [], _∷_, _++_}
@@ -17,7 +17,7 @@ use Rattle.script.specs.Script.{Script, no, run, done, stop, reads, goes, halts
 use Rattle.sound.specs.Sound.{InTable, Given, Sound}
 use Rattle.sound.specs.Plans.{Plan}
 use Rattle.sound.specs.RegionPlan.{Looked, seeRegions, Layout, layScript, regionScript}
-use Rattle.sound.specs.Meets.{Meets, Grants}
+use Rattle.sound.specs.Meets.{Meets}
 use Rattle.sound.specs.Founded.{Founded, sound-founded}
 use Rattle.sound.specs.Laying.{lays}
 use Rattle.sound.specs.RegionTable.{firstOf, endOf, Overlap, Passed, look, Longer, given-more, filled}
@@ -63,8 +63,18 @@ founded-sound n c q r g e zs f o v = record {
 -- ---- the script
 
 -- before the first entry
-abbrev nothing-seen : Looked
+abbrev pub nothing-seen : Looked
 nothing-seen = record { meets = 0; wrong = 0 }
+
+-- grains that no entry of the table overlaps are gaps
+pub clear-spot : (n c g len : ℕ) (m : Memory) (h : Heap) → Sound n c m h → 1 ≤ len → g + len ≤ n → Passed n g len m (m Table 0) 0 nothing-seen → Spot g len (h .blocks)
+clear-spot n c g len m h b some near p = gaps-spot g len (h .blocks) some (b .heap .order) (λ y u v. ⊎-elim
+    (λ (k : BlockAt y gap 0 (h .blocks)). k)
+    (λ (k : InTable m y). absurd (⊎-elim
+    (λ (a : endOf m (k .0) ≤ g). omega (arith, k .3))
+    (λ (a : g + len ≤ firstOf m (k .0)). omega (arith, k .2))
+    (p .clear (k .0) (omega arith) (omega (arith, k .1)))))
+    (b .given .either y (omega (arith, b .whole))))
 
 -- the plan for a region laid as w, which becomes region r
 abbrev planned : ℕ → ℕ → ℕ → Layout → Plan
@@ -104,16 +114,6 @@ module _ (most behind n c g len : ℕ) (m : Memory) (room : m Table 0 < most) wh
     Judged = ((run m script ≡ no 4) × (2 ≤ len → Spot g len (h .blocks) → ⊥))
         ⊎ ((2 ≤ len) × (g + len ≤ n) × Passed n g len m (m Table 0) 0 nothing-seen × Spot g len (h .blocks))
 
-    -- grains that are in no region are gaps
-    apart-spot : 2 ≤ len → g + len ≤ n → Passed n g len m (m Table 0) 0 nothing-seen → Spot g len (h .blocks)
-    apart-spot two near p = gaps-spot g len (h .blocks) (omega arith) (b .heap .order) (λ y u v. ⊎-elim
-        (λ (k : BlockAt y gap 0 (h .blocks)). k)
-        (λ (k : InTable m y). absurd (⊎-elim
-        (λ (a : endOf m (k .0) ≤ g). omega (arith, k .3))
-        (λ (a : g + len ≤ firstOf m (k .0)). omega (arith, k .2))
-        (p .clear (k .0) (omega arith) (omega (arith, k .1)))))
-        (b .given .either y (omega (arith, b .whole))))
-
     -- one of the two holds
     judged : Judged
     judged = ⊎-elim
@@ -124,7 +124,7 @@ module _ (most behind n c g len : ℕ) (m : Memory) (room : m Table 0 < most) wh
           looks two near ∙ halts m (seeRegions n g len (m Table 0) 0 nothing-seen) _ (k .0),
           λ _ p. b .given .never (k .1 .grain) (spot-gap g len (h .blocks) p (k .1 .grain) (k .1 .low) (k .1 .high)) (k .1 .inside),
         ))
-        (λ (p : Passed n g len m (m Table 0) 0 nothing-seen). inr (two, near, p, apart-spot two near p))
+        (λ (p : Passed n g len m (m Table 0) 0 nothing-seen). inr (two, near, p, clear-spot n c g len m h b (omega arith) near p))
         (look n g len m (omega arith) (λ j u. let s = b .given .sane j u in (s .0, omega (arith, s .1, b .whole))) (m Table 0) 0 nothing-seen (omega arith)))
         (λ (far : n < g + len). inl (too-far two far, λ _ p. omega (arith, spot-inside g len (h .blocks) p, b .whole)))
         (le? (g + len) n))

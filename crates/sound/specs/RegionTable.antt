@@ -2,7 +2,7 @@
 use Prim.Native.Nat.{ℕ, zero, suc, _+_, _-_, _*_, _≤_, _<_, max}
 use native.Mathlib.Omega.{arith}
 use mathlib.Core.Path.{_≡_, refl, ap, sym, _∙_, subst}
-use mathlib.Core.List.{List, [], _∷_}
+use mathlib.Core.List.{List}
 use mathlib.Core.Logic.{_⊎_, inl, inr, ⊎-elim}
 use Rattle.choice.specs.Choice.{ifEq, ifLe, eq-case, eq-yes, eq-no, le?, le-yes, le-no, same?}
 use Rattle.definition.specs.Blocks.{Block, gap, total, _⟨⟩_, gaps}
@@ -12,7 +12,7 @@ use Rattle.invariants.specs.Order.{out, Ordered, order-split, total-zip, BlockA
 use Rattle.invariants.specs.Gaps.{Spot, spot-inside, total-gaps, gaps-at, gaps-behind, gaps-cases}
 use Rattle.invariants.specs.Regions.{lay-total, lay-gap, lay-old, lay-some}
 use Rattle.script.specs.Memory.{Memory, Table}
-use Rattle.script.specs.Script.{Script, Gives, Result, ok, no, run, done, stop, reads, goes, halts, gives-le, gives-done, halts-le, unlessLe, _>>=_, _>>_}
+use Rattle.script.specs.Script.{Script, Gives, no, run, done, reads, goes, halts, gives-le, gives-done, halts-le, unlessLe, _>>_}
 use Rattle.sound.specs.Sound.{InTable, Given}
 use Rattle.sound.specs.RegionPlan.{Looked, wrongOf, seeRegions}
 

@@ -1,16 +1,13 @@
 -- Steps on the lists: some writes turn a memory strung for f into one strung for g, and leave the other fields, and the
 -- previous-links of grains that are in no list, as they were.
-use Prim.Native.Nat.{ℕ, zero, suc, _+_, _≤_, _<_}
-use native.Mathlib.Omega.{arith}
+use Prim.Native.Nat.{ℕ, _+_, _<_}
 use mathlib.Core.Path.{_≡_, refl, ap, sym, _∙_, subst}
 use mathlib.Core.List.{List, [], _∷_, _++_}
-use mathlib.Core.Logic.{_⊎_, inl, inr, ⊎-elim}
-use Rattle.choice.specs.Choice.{ifEq, upd-same}
-use Rattle.class.specs.Class.{listOf}
-use Rattle.definition.specs.Blocks.{Block, free, used, last, gap}
-use Rattle.definition.specs.Lists.{Lists, push, drop, skip}
+use mathlib.Core.Logic.{inl, ⊎-elim}
+use Rattle.choice.specs.Choice.{upd-same}
+use Rattle.definition.specs.Lists.{Lists, push, drop}
 use Rattle.invariants.specs.Members.{Mem, Apiece, apiece-drop, apiece-push, mem-drop, mem-push}
-use Rattle.script.specs.Memory.{Memory, Size, Before, Next, Prev, Mark, Live, Table, none, root, Write, apply, latest, apply-is, apply-append, apply-spared, Untouched, untouched-append}
+use Rattle.script.specs.Memory.{Memory, Next, Prev, Mark, none, root, Write, apply, apply-append, apply-spared, Untouched, untouched-append}
 use Rattle.sound.specs.Chain.{Real, head-is, next-mem}
 use Rattle.sound.specs.Strung.{Strung, strung-unlink, strung-push, unlink-untouched, push-untouched, unlink-spares, push-spares}
 use Rattle.sound.specs.Links.{unlinkWrites, pushWrites}

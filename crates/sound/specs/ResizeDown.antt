@@ -1,10 +1,10 @@
 -- Resize downwards: the block swallows the free blocks on both sides, and its payload moves to where the block before began,
 -- with its padding counted anew.
-use Prim.Native.Nat.{ℕ, zero, suc, _+_, _-_, _*_, _/_, _%_, _≤_, _<_}
+use Prim.Native.Nat.{ℕ, _+_, _-_, _*_, _≤_}
 use native.Mathlib.Omega.{arith}
-use mathlib.Core.Path.{_≡_, refl, ap, sym, _∙_, subst}
+use mathlib.Core.Path.{_≡_, refl, ap, _∙_, subst}
 use mathlib.Core.List.{List, [], _∷_, _++_}
-use mathlib.Core.Logic.{_⊎_, inl, inr, ⊎-elim}
+use mathlib.Core.Logic.{⊎-elim}
 use Rattle.choice.specs.Choice.{le-yes, eq-case}
 use Rattle.definition.specs.Blocks.{Block, free, used, last, gap, total, _⟨⟩_, room, past, payload}
 use Rattle.definition.specs.Lists.{Lists, skip}

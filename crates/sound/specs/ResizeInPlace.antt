@@ -1,9 +1,8 @@
 -- Resize in place: the block swallows what is free behind it, and leaves what it doesn't need. Its payload stays where it is.
-use Prim.Native.Nat.{ℕ, zero, suc, _+_, _-_, _*_, _/_, _%_, _≤_, _<_}
+use Prim.Native.Nat.{ℕ, _+_, _-_, _*_, _≤_, _<_}
 use native.Mathlib.Omega.{arith}
 use mathlib.Core.Path.{_≡_, refl, ap, sym, _∙_, subst}
-use mathlib.Core.List.{List, [], _∷_, _++_}
-use mathlib.Core.Logic.{_⊎_, inl, inr, ⊎-elim}
+use mathlib.Core.List.{List, _∷_}
 use Rattle.choice.specs.Choice.{le-yes, eq-case}
 use Rattle.class.specs.Class.{listOf, list-small}
 use Rattle.definition.specs.Blocks.{Block, free, used, size, total, _⟨⟩_, room, past, payload}

@@ -1,9 +1,9 @@
 -- Resize: on a sound memory its script does what the definition says, in each of the four steps.
-use Prim.Native.Nat.{ℕ, zero, suc, _+_, _-_, _*_, _/_, _%_, _≤_, _<_}
+use Prim.Native.Nat.{ℕ, _+_, _-_, _*_, _≤_, _<_}
 use native.Mathlib.Omega.{arith}
 use mathlib.Core.Path.{_≡_, refl, ap, sym, _∙_, subst}
 use mathlib.Core.List.{List, [], _∷_, _++_}
-use mathlib.Core.Logic.{_⊎_, inl, inr, ⊎-elim}
+use mathlib.Core.Logic.{⊎-elim}
 use Rattle.choice.specs.Choice.{ifEq, ifLe, eq-yes, eq-no, le-yes, le-no, same?, le?}
 use Rattle.definition.specs.Blocks.{Block, used, size, total, _⟨⟩_, room, past, Place}
 use Rattle.definition.specs.Lists.{Lists, skip}

@@ -1,17 +1,17 @@
 -- Return, on a sound memory: its script answers as the definition does, and what it writes turns the memory into one for
 -- the definition's heap. The block found becomes one free block with its free neighbours, which leave their lists, and
 -- goes to the head of its list; its payload is live no more. A payload that is not live is refused.
-use Prim.Native.Nat.{ℕ, _+_, _-_, _*_, _/_, _%_, _≤_, _<_}
+use Prim.Native.Nat.{ℕ, _+_, _-_, _*_, _/_, _≤_, _<_}
 use native.Mathlib.Omega.{arith}
 use mathlib.Core.Path.{_≡_, refl, ap, sym, _∙_, subst}
 use mathlib.Core.List.{List, _∷_, _++_}
 use mathlib.Core.Logic.{inr, ⊎-elim}
 use Rattle.choice.specs.Choice.{upd, same?}
 use Rattle.class.specs.Class.{listOf}
-use Rattle.definition.specs.Blocks.{Block, free, used, gap, size, total, _⟨⟩_, Place, room, past}
+use Rattle.definition.specs.Blocks.{Block, free, used, gap, total, _⟨⟩_, Place, room, past}
 use Rattle.definition.specs.Lists.{Lists, push, skip}
 use Rattle.definition.specs.Calls.{Heap, granted, join, giveBackAt, giveBack}
-use Rattle.invariants.specs.Order.{out, busy, idle, Inside, Ordered, OrderedL, order-split, total-zip, BlockAt, at-here, stands-at, Apart, same, before, behind, apart, at-whole, payload-at}
+use Rattle.invariants.specs.Order.{busy, idle, Inside, Ordered, OrderedL, order-split, total-zip, BlockAt, at-here, stands-at, Apart, same, before, behind, apart, payload-at}
 use Rattle.invariants.specs.Moves.{Ok, free-used}
 use Rattle.invariants.specs.Neighbours.{total-past, orderL-past, order-past, join-ok}
 use Rattle.invariants.specs.Kept.{kept-join, kept-join-back}
@@ -26,7 +26,7 @@ use Rattle.sound.specs.Meets.{Grants, Meets}
 use Rattle.sound.specs.Core.{core-both, row-free}
 use Rattle.sound.specs.Relists.{Relists, relists-push, relists-then}
 use Rattle.sound.specs.Leave.{row-as}
-use Rattle.sound.specs.Swaps.{Swaps, lively-drop, pad-inside, pad-free, padded-change, given-same}
+use Rattle.sound.specs.Swaps.{Swaps, lively-drop, pad-free, padded-change, given-same}
 use Rattle.sound.specs.Seen.{not-owner, head-seen}
 use Rattle.sound.specs.SeenBeside.{Here, beside, room-seen, owner-seen, behind-seen, before-seen, merged-list}
 use Rattle.sound.specs.Skips.{skips-both, fewer-both, not-in-both}

@@ -1,12 +1,12 @@
 -- The row of blocks in memory: `sz` is the field Size and `up` the field Before. What a header says of its own block,
 -- and which words may change without touching the row. Frames are intervals of grains.
-use Prim.Native.Nat.{ℕ, zero, suc, _+_, _*_, _≤_, _<_}
+use Prim.Native.Nat.{ℕ, _+_, _≤_, _<_}
 use native.Mathlib.Omega.{arith}
 use native.Mathlib.Nat.{add-zero}
-use mathlib.Core.Path.{_≡_, refl, ap, sym, _∙_}
+use mathlib.Core.Path.{_≡_, _∙_}
 use mathlib.Core.List.{List, [], _∷_}
 use Rattle.definition.specs.Blocks.{Block, free, used, last, gap, size, total, _⟨⟩_, room, past}
-use Rattle.invariants.specs.Order.{Side, Whole, Ordered, OrderedL, some}
+use Rattle.invariants.specs.Order.{Side, Ordered, OrderedL, some}
 use Rattle.script.specs.Memory.{none, freeWord, usedWord, lastWord}
 
 -- what the header at x says, if p is the block before

@@ -1,19 +1,17 @@
 -- A memory after a plan's writes is sound again: what is left to show once the row and the lists are in order.
-use Prim.Native.Nat.{ℕ, zero, suc, _+_, _-_, _*_, _/_, _%_, _≤_, _<_}
+use Prim.Native.Nat.{ℕ, _+_, _-_, _/_, _%_, _≤_}
 use native.Mathlib.Omega.{arith}
-use mathlib.Core.Path.{_≡_, refl, ap, sym, _∙_, subst}
-use mathlib.Core.List.{List, [], _∷_, _++_}
-use mathlib.Core.Logic.{_⊎_, inl, inr, ⊎-elim}
+use mathlib.Core.Path.{_≡_, sym, _∙_, subst}
+use mathlib.Core.List.{List, _∷_}
+use mathlib.Core.Logic.{⊎-elim}
 use Rattle.choice.specs.Choice.{eq-case}
-use Rattle.definition.specs.Blocks.{Block, free, used, last, gap, size, total, _⟨⟩_}
+use Rattle.definition.specs.Blocks.{Block, free, used, gap, total}
 use Rattle.definition.specs.Lists.{Lists}
 use Rattle.definition.specs.Calls.{Heap, leave}
 use Rattle.invariants.specs.Order.{out, Whole, BlockAt, total-zip, apart, Apart, same, before, behind, at-whole}
-use Rattle.invariants.specs.Moves.{Sane, Ok}
-use Rattle.invariants.specs.Kept.{Solid}
+use Rattle.invariants.specs.Moves.{Ok}
 use Rattle.script.specs.Memory.{Memory, Prev, Table, none, Write}
-use Rattle.sound.specs.Sound.{Sound, Lively, Padded, Given}
-use Rattle.sound.specs.Relists.{NotIn}
+use Rattle.sound.specs.Sound.{Sound, Lively, Given}
 use Rattle.sound.specs.Leave.{LeavesIn}
 use Rattle.sound.specs.Swaps.{Swaps, lively-same, pad-inside, pad-free, padded-change, given-same, used-place}
 use Rattle.sound.specs.Finish.{Finished}

@@ -2,15 +2,14 @@
 -- list. Return and resize swallow their neighbours so. The two neighbours may stand beside each other in one list: what
 -- is read of the second before anything is written is put right by `afterwards`.
 use Prim.Native.Nat.{ℕ, _+_, _≤_, _<_}
-use native.Mathlib.Omega.{arith}
 use mathlib.Core.Path.{_≡_, refl, sym, subst}
 use mathlib.Core.List.{List, [], _∷_}
 use Rattle.class.specs.Class.{listOf}
 use Rattle.definition.specs.Blocks.{Block, free, used, last, gap, total, _⟨⟩_, room, past}
 use Rattle.definition.specs.Lists.{Lists, skip}
-use Rattle.invariants.specs.Order.{out, BlockAt, at-here, Apart, same, before, behind, apart, at-whole}
+use Rattle.invariants.specs.Order.{BlockAt, at-here, before, behind}
 use Rattle.invariants.specs.Members.{Mem, Apiece, mem-drop}
-use Rattle.invariants.specs.Moves.{Sane, free-used}
+use Rattle.invariants.specs.Moves.{Sane, used-unlisted}
 use Rattle.invariants.specs.Neighbours.{swallow, swallow-behind}
 use Rattle.script.specs.Memory.{Memory, Next, Prev, Write, apply, apply-is}
 use Rattle.sound.specs.Chain.{Real}
@@ -49,15 +48,6 @@ seen-after m w (used t d ∷ l) z = refl
 seen-after m w (last ∷ l) z = refl
 seen-after m w (gap ∷ l) z = refl
 
--- the grains of a used block are in no list
-not-in-used : (c : ℕ) (A : List Block) (f : Lists) (x t d : ℕ) → Sane c A f → BlockAt x (used t d) 0 A → (u : ℕ) → x ≤ u → u < x + t → NotIn f u
-not-in-used c A f x t d o h u p q k i = let g = o .exact .there k u i in go (g .0) (g .1) (apart x u 0 (used t d) (free (g .0)) A h (g .1))
-  where
-    go : (v : ℕ) → BlockAt u (free v) 0 A → Apart x (used t d) u (free v) → ⊥
-    go v b (same a e) = free-used e
-    go v b (before a) = omega arith
-    go v b (behind a) = omega (arith, at-whole u (free v) 0 out A (o .order) b)
-
 -- ---- those beside a used block
 
 module _ (n c : ℕ) (m : Memory) (f : Lists) (l r : List Block) (s d : ℕ) (o : Sound n c m (Here f l (used s d) r)) where
@@ -94,8 +84,8 @@ module _ (n c : ℕ) (m : Memory) (f : Lists) (l r : List Block) (s d : ℕ) (o 
 
   -- what the block swallows behind it is in no list
   pub not-in-behind : (u : ℕ) → total l ≤ u → u < total l + (s + room r) → NotIn (skip r (total l + s) f) u
-  not-in-behind = not-in-used c _ _ (total l) (s + room r) d swallowed (at-here l (past r) (used (s + room r) d))
+  not-in-behind = used-unlisted c _ _ (total l) (s + room r) d swallowed (at-here l (past r) (used (s + room r) d))
 
   -- nor what it swallows on both sides
   pub not-in-both : (u : ℕ) → total (past l) ≤ u → u < total (past l) + (room l + (s + room r)) → NotIn (skip l (total (past l)) (skip r (total l + s) f)) u
-  not-in-both = not-in-used c _ _ (total (past l)) (room l + (s + room r)) 1 (swallow c f l r s d (o .heap)) (at-here (past l) (past r) (used (room l + (s + room r)) 1))
+  not-in-both = used-unlisted c _ _ (total (past l)) (room l + (s + room r)) 1 (swallow c f l r s d (o .heap)) (at-here (past l) (past r) (used (room l + (s + room r)) 1))

@@ -1,9 +1,9 @@
 -- `Sound n c m h`: the memory m of an arena of n grains stands for the heap h, with c first-level classes.
-use Prim.Native.Nat.{ℕ, zero, suc, _+_, _-_, _*_, _/_, _%_, _≤_, _<_}
+use Prim.Native.Nat.{ℕ, _+_, _-_, _*_, _/_, _%_, _≤_, _<_}
 use mathlib.Core.Path.{_≡_}
 use mathlib.Core.List.{List}
 use mathlib.Core.Logic.{_⊎_}
-use Rattle.definition.specs.Blocks.{Block, free, used, last, gap, total}
+use Rattle.definition.specs.Blocks.{Block, used, gap, total}
 use Rattle.definition.specs.Calls.{Heap}
 use Rattle.invariants.specs.Order.{BlockAt}
 use Rattle.invariants.specs.Moves.{Ok}

@@ -1,16 +1,16 @@
 -- The lists in memory, with their marks. The writes that take a block out of its list, and those that put one at the head
 -- of a list, keep them strung.
-use Prim.Native.Nat.{ℕ, zero, suc, _+_, _≤_, _<_}
+use Prim.Native.Nat.{ℕ, _+_, _<_}
 use native.Mathlib.Omega.{arith}
 use mathlib.Core.Path.{_≡_, refl, ap, sym, _∙_, subst}
 use mathlib.Core.List.{List, [], _∷_, _++_}
-use mathlib.Core.Logic.{_⊎_, inl, inr, ⊎-elim}
-use Rattle.choice.specs.Choice.{ifEq, eq-yes, eq-no, eq-case, upd, upd-same, upd-other, upd-each, upd-pair, same?}
+use mathlib.Core.Logic.{inl, inr, ⊎-elim}
+use Rattle.choice.specs.Choice.{eq-case, upd, upd-same, upd-other, upd-each, upd-pair, same?}
 use Rattle.definition.specs.Lists.{Lists, remove, push, drop}
-use Rattle.invariants.specs.Members.{Mem, NoDup, Parts, parts, Apiece}
-use Rattle.script.specs.Memory.{Memory, Size, Before, Next, Prev, Mark, Live, Table, none, root, Write, _at_≔_, put, apply, Untouched, Spared}
+use Rattle.invariants.specs.Members.{Mem, Parts, parts, Apiece}
+use Rattle.script.specs.Memory.{Memory, Next, Prev, Mark, none, root, Write, _at_≔_, put, apply, Untouched, Spared}
 use Rattle.sound.specs.Links.{unlinkWrites, pushWrites, node}
-use Rattle.sound.specs.Chain.{Chain, Links, Real, chain-keep, links-unlink, links-push, not-root, not-none, head-is, node-mem, next-mem, prev-mem, prev-is, tail-of, lastOr, last-mem}
+use Rattle.sound.specs.Chain.{Chain, Links, Real, chain-keep, links-unlink, links-push, not-none, prev-is, tail-of, lastOr, last-mem}
 
 -- a list's mark
 abbrev pub Marked : ℕ → List ℕ → Type 0

@@ -1,17 +1,17 @@
 -- What a call does to the blocks that are not free: one goes, one comes, the rest stays. With it the live bits, the words
 -- before payloads and the given grains of a memory follow.
-use Prim.Native.Nat.{ℕ, zero, suc, _+_, _-_, _*_, _/_, _%_, _≤_, _<_}
+use Prim.Native.Nat.{ℕ, _+_, _-_, _*_, _/_, _%_, _≤_, _<_}
 use native.Mathlib.Omega.{arith}
-use mathlib.Core.Path.{_≡_, refl, ap, sym, _∙_, subst}
-use mathlib.Core.List.{List, [], _∷_}
+use mathlib.Core.Path.{_≡_, ap, sym, _∙_, subst}
+use mathlib.Core.List.{List}
 use mathlib.Core.Logic.{_⊎_, inl, inr, ⊎-elim}
 use Rattle.choice.specs.Choice.{upd, upd-same, upd-other, same?}
-use Rattle.definition.specs.Blocks.{Block, free, used, last, gap, size, total, _⟨⟩_}
+use Rattle.definition.specs.Blocks.{Block, free, used, gap, total}
 use Rattle.definition.specs.Lists.{Lists}
-use Rattle.invariants.specs.Order.{Side, out, Ordered, Whole, Inside, some, BlockAt, Apart, same, before, behind, apart, at-whole}
-use Rattle.invariants.specs.Moves.{Sane}
+use Rattle.invariants.specs.Order.{out, Ordered, Whole, Inside, some, BlockAt, Apart, same, before, behind, apart, at-whole}
+use Rattle.invariants.specs.Moves.{Sane, used-unlisted}
 use Rattle.invariants.specs.Kept.{Solid}
-use Rattle.script.specs.Memory.{Memory, Prev, Live, Table, none}
+use Rattle.script.specs.Memory.{Memory, Prev, Live, Table}
 use Rattle.sound.specs.Sound.{Lively, Padded, InTable, Given}
 use Rattle.sound.specs.Relists.{NotIn}
 
@@ -147,15 +147,10 @@ pub pad-inside : (x s d : ℕ) → Inside s d → d % 2 ≡ 0 → (x ≤ x + d /
 pad-inside x s d i e = (omega (arith, i .some), omega (arith, i .some, i .within))
 
 pub pad-free : (c : ℕ) (A : List Block) (f : Lists) (x s d : ℕ) → Sane c A f → BlockAt x (used s d) 0 A → d % 2 ≡ 0 → NotIn f (x + d / 2 - 1)
-pad-free c A f x s d o h e k i = let t = o .exact .there k (x + d / 2 - 1) i in go (t .0) (t .1) (apart x (x + d / 2 - 1) 0 (used s d) (free (t .0)) A h (t .1))
-  where
-    u : Whole (used s d)
-    u = at-whole x (used s d) 0 out A (o .order) h
-
-    go : (t : ℕ) → BlockAt (x + d / 2 - 1) (free t) 0 A → Apart x (used s d) (x + d / 2 - 1) (free t) → ⊥
-    go t b (same p q) = let z : _≡_ {A = ℕ} 0 1 = cc in omega arith
-    go t b (before p) = omega (arith, pad-inside x s d (u .1) e)
-    go t b (behind p) = omega (arith, pad-inside x s d (u .1) e, at-whole (x + d / 2 - 1) (free t) 0 out A (o .order) b)
+pad-free c A f x s d o h e =
+    let u : Whole (used s d) = at-whole x (used s d) 0 out A (o .order) h in
+    let p = pad-inside x s d (u .1) e in
+    used-unlisted c A f x s d o h (x + d / 2 - 1) (p .0) (p .1)
 
 pub padded-change : (m u : Memory) (A B : List Block) (x : ℕ) (old : Block) (z : ℕ) (new : Block) → Padded m A → Swaps A B x old z new
     → ((k d : ℕ) → new ≡ used k d → d % 2 ≡ 0 → u Prev (z + d / 2 - 1) ≡ z)

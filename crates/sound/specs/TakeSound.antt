@@ -1,36 +1,33 @@
 -- Take: on a sound memory its script does what the definition says.
-use Prim.Native.Nat.{ℕ, zero, suc, _+_, _-_, _*_, _/_, _%_, _≤_, _<_}
+use Prim.Native.Nat.{ℕ, suc, _+_, _-_, _*_, _≤_, _<_}
 use native.Mathlib.Omega.{arith}
 use mathlib.Core.Path.{_≡_, refl, ap, sym, _∙_, subst}
 use mathlib.Core.List.{List, [], _∷_, _++_}
-use mathlib.Core.Logic.{_⊎_, inl, inr, ⊎-elim}
-use Rattle.choice.specs.Choice.{ifEq, eq-case, upd, upd-same, upd-other}
+use mathlib.Core.Logic.{inl, inr}
 use Rattle.bits.specs.First.{firstSet, first-is}
 use Rattle.class.specs.Class.{listOf, startOf, list-small}
-use Rattle.definition.specs.Blocks.{Block, free, used, last, gap, size, total, _⟨⟩_}
-use Rattle.definition.specs.Lists.{Lists, drop, push, Found, nothing, found, search}
-use Rattle.definition.specs.Calls.{Heap, noList, Answer, refused, granted, leave, wanted, place, keeps, take, takeAt}
-use Rattle.invariants.specs.Order.{Ordered, OrderedL, order-split, BlockAt, at-here, at-low, total-zip, apart, Apart, same, before, behind, at-whole}
-use Rattle.invariants.specs.Members.{Mem, Apiece, mem-drop}
-use Rattle.invariants.specs.Moves.{Sane, Ok, occupy}
+use Rattle.definition.specs.Blocks.{Block, free, used, total, _⟨⟩_}
+use Rattle.definition.specs.Lists.{Lists, drop, Found, nothing, found, search}
+use Rattle.definition.specs.Calls.{Heap, refused, leave, wanted, place, keeps, take, takeAt}
+use Rattle.invariants.specs.Order.{order-split, BlockAt, at-here, total-zip, apart, Apart, same, before, behind, at-whole}
+use Rattle.invariants.specs.Members.{Mem, mem-drop}
+use Rattle.invariants.specs.Moves.{Ok}
 use Rattle.invariants.specs.Placing.{Align, align-pos, place-some, keeps-some, keeps-wanted}
-use Rattle.invariants.specs.Kept.{Solid, solid-free}
-use Rattle.invariants.specs.Promises.{Finds, finds, Took, take-found, sought, search-empty, leave-here, leave-keeps, leave-only}
-use Rattle.script.specs.Memory.{Memory, Size, Before, Next, Prev, Mark, Live, Table, none, root, Write, _at_≔_, apply}
-use Rattle.script.specs.Script.{Script, run, no, done, Gives, gives-bind, gives-get, gives-done, gives-eq, gives-le, goes, halts, halts-le, searches, unlessLe, mustEq, get}
-use Rattle.sound.specs.Chain.{Real}
+use Rattle.invariants.specs.Promises.{finds, take-found, sought, search-empty, leave-here, leave-keeps, leave-only}
+use Rattle.script.specs.Memory.{Memory, Size, Before, Next, Prev, Mark, Live, none, root, Write, _at_≔_, apply}
+use Rattle.script.specs.Script.{run, no, Gives, gives-bind, gives-get, gives-done, gives-eq, gives-le, halts, halts-le, searches, unlessLe, mustEq}
 use Rattle.sound.specs.Strung.{Strung, Marked}
 use Rattle.sound.specs.Sound.{Sound}
 use Rattle.sound.specs.Checks.{mustGrain, mustFree, mustLead, mustBack, mustBusy}
 use Rattle.sound.specs.Plans.{Plan, takeScript, leaveScript, padWrites}
-use Rattle.sound.specs.Meets.{number, Grants, Meets}
+use Rattle.sound.specs.Meets.{Grants, Meets}
 use Rattle.sound.specs.Core.{core-free}
-use Rattle.sound.specs.Relists.{Relists, NotIn, Fewer, relists-drop}
+use Rattle.sound.specs.Relists.{Relists, NotIn, relists-drop}
 use Rattle.sound.specs.Leave.{leaveWrites, leave-gives, leave-memory}
 use Rattle.sound.specs.Swaps.{Swaps, lively-add}
-use Rattle.sound.specs.Finish.{Finished, finish-memory}
+use Rattle.sound.specs.Finish.{finish-memory}
 use Rattle.sound.specs.Settle.{settle, leave-total}
-use Rattle.sound.specs.Seen.{FreeFacts, free-facts, member-inside, lists-real, head-seen, free-seen, head-leads, head-prev, head-back, gives-lead, gives-grain}
+use Rattle.sound.specs.Seen.{FreeFacts, free-facts, lists-real, head-seen, free-seen, head-leads, head-prev, head-back, gives-lead, gives-grain}
 use Rattle.sound.specs.SeenBeside.{Here}
 use Rattle.sound.specs.Links.{unlinkWrites}
 use Rattle.invariants.specs.Gaps.{gap-free}

@@ -4,7 +4,7 @@ use Prim.Native.Nat.{ℕ, suc, _+_, _-_, _*_, _≤_, _<_}
 use native.Mathlib.Omega.{arith}
 use mathlib.Core.Path.{_≡_, refl, sym, subst}
 use mathlib.Core.List.{List, _++_}
-use mathlib.Core.Logic.{_⊎_, inl, inr, ⊎-elim}
+use mathlib.Core.Logic.{inl, inr, ⊎-elim}
 use Rattle.class.specs.Class.{listOf}
 use Rattle.definition.specs.Calls.{place, keeps}
 use Rattle.invariants.specs.Placing.{Align, align-pos, place-some, keeps-some, keeps-holds, keeps-wanted}

@@ -5,7 +5,7 @@ use native.Mathlib.Omega.{arith}
 use lib.Pow.{pow-mono}
 use mathlib.Core.Path.{refl, sym, _∙_, subst}
 use mathlib.Core.List.{List, [], _++_}
-use mathlib.Core.Logic.{_⊎_, inl, inr, ⊎-elim}
+use mathlib.Core.Logic.{inl, inr, ⊎-elim}
 use Rattle.class.specs.Class.{listOf, list-small}
 use Rattle.script.specs.Memory.{Memory, none, freeWord, lastWord, Write, apply}
 use Rattle.script.specs.Script.{over, over-run, Gives, inv-bind, inv-done}

@@ -4,7 +4,7 @@ use Prim.Native.Nat.{ℕ, _+_, _-_, _*_, _≤_, _<_}
 use native.Mathlib.Omega.{arith}
 use mathlib.Core.Path.{sym, _∙_, subst}
 use mathlib.Core.List.{List}
-use mathlib.Core.Logic.{_⊎_, inl, inr, ⊎-elim}
+use mathlib.Core.Logic.{inl, inr, ⊎-elim}
 use Rattle.definition.specs.Calls.{place, keeps}
 use Rattle.invariants.specs.Placing.{Align, align-pos, place-some, keeps-some, keeps-holds}
 use Rattle.script.specs.Memory.{Memory, Write, apply}

@@ -1,8 +1,6 @@
 -- `free_list::leads_back`: each return is one case of leading back.
-use Prim.Native.Nat.{_≤_, _<_}
 use native.Mathlib.Omega.{arith}
 use mathlib.Core.Logic.{inl}
-use Rattle.slices.specs.Decode.{grains}
 use Rattle.free_list.specs.Back.{back-outside, back-says}
 use borrow.Author.Needs.{needs}
 use Rattle.free_list.proofs.leads_back.Statement.{statement}

@@ -1,8 +1,6 @@
 -- `header::free_at`: each return is one test of the size word.
-use native.Mathlib.Omega.{arith}
-use mathlib.Core.Path.{_≡_, refl, ap, sym, _∙_, subst}
-use Rattle.slices.specs.Decode.{grains}
-use Rattle.header.specs.Turned.{turned, grains-few}
+use mathlib.Core.Path.{ap, sym, _∙_}
+use Rattle.header.specs.Turned.{grains-few}
 use Rattle.header.specs.Told.{freeOf, told-free, not-free, told-zero, says}
 use borrow.Author.Needs.{needs}
 use Rattle.header.proofs.free_at.Statement.{statement}

@@ -1,7 +1,6 @@
 -- `header::used_at`: each return is one test of the size word.
-use mathlib.Core.Path.{_≡_, ap, sym, _∙_}
-use Rattle.slices.specs.Decode.{grains}
-use Rattle.header.specs.Turned.{turned, grains-few}
+use mathlib.Core.Path.{ap, sym, _∙_}
+use Rattle.header.specs.Turned.{grains-few}
 use Rattle.header.specs.Told.{usedOf, told-used, not-used, told-zero, says}
 use borrow.Author.Needs.{needs}
 use Rattle.header.proofs.used_at.Statement.{statement}

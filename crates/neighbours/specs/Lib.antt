@@ -1,0 +1,3 @@
+-- What the code answers as the scripts answer it, and the scripts' steps in the order in which the code finds them.
+pub mod Shown
+pub mod Owner
