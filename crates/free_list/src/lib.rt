@@ -114,7 +114,7 @@ fn stands_behind(a: &[u8], h: u64, y: usize, p: u64) -> bool
 }
 
 // Whether x is none, or leads to a grain whose link f leads to y.
-fn leads_back(a: &[u8], f: usize, x: u64, y: usize) -> bool
+pub fn leads_back(a: &[u8], f: usize, x: u64, y: usize) -> bool
     requires { ⌜ (f < 4) × (y < grains 8 (now a)) ⌝ }
     ensures { λ r. ⌜ Says (Back (now (a .entry)) f x y) r ⌝ }
 {

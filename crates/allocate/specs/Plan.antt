@@ -1,0 +1,165 @@
+-- What a plan of a take says: the writes, spelled from its numbers, or a refusal; and that this is what the script of a
+-- take answers. Each law is one return of the code.
+use Prim.Native.Nat.{ℕ, zero, suc, _+_, _-_, _*_, _/_, _%_, _^_, _≤_, _<_}
+use native.Mathlib.Omega.{arith}
+use mathlib.Core.Path.{_≡_, refl, ap, sym, _∙_, subst}
+use mathlib.Core.Bool.{Bool, true, false}
+use mathlib.Core.List.{List, [], _∷_, _++_}
+use mathlib.Core.Logic.{⊎-elim}
+use lib.ListN.{length}
+use Rattle.align.specs.Align.{Power, power-pos}
+use Rattle.bits.specs.First.{firstSet, first-from, first-agree}
+use Rattle.bits.specs.Map.{lists, mapBit}
+use Rattle.class.specs.Class.{listOf, startOf, floor, floor-at, floor-lt, floor-order, start-enough, start-fits}
+use Rattle.definition.specs.Calls.{wanted, place, keeps}
+use Rattle.invariants.specs.Placing.{keeps-wanted}
+use Rattle.script.specs.Memory.{Memory, Live, Mark, none, Write, _at_≔_}
+use Rattle.script.specs.Script.{Script, Result, ok, no, run, done, first, unlessLe, _>>=_, _>>_, goes, halts, searches, gives-done, gives-le, halts-le}
+use Rattle.sound.specs.Links.{unlinkWrites}
+use Rattle.sound.specs.Plans.{leaveScript, padWrites, takeScript}
+use Rattle.sound.specs.Plans.{Plan as Answer}
+use Rattle.slices.specs.Decode.{grains}
+use Rattle.slices.specs.Slices.{memoryOf, memory-mark}
+use Rattle.free_list.specs.Lent.{lent, link}
+use Rattle.free_list.specs.Back.{answer}
+use Rattle.allocate.specs.declared.Plan.{Plan}
+use Rattle.allocate.specs.declared.First.{First}
+use Rattle.allocate.specs.declared.Rest.{Rest}
+use Rattle.allocate.specs.First.{firstThen, after, SeenFirst}
+use Rattle.allocate.specs.Rest.{classes, leftWrites, SeenRest}
+
+-- p half grains at a multiple of u
+pub record InRange (p u : ℕ) : Type 0 where
+  pub power : Power u
+  pub most : u ≤ 256
+  pub fits : p + u + 1 < 2 ^ 64
+
+-- ---- what a plan says
+
+-- the writes w that leave the block, the pad, and the live bit, for a payload at place d of the block at y
+abbrev madeOf : ℕ → ℕ → List Write → Answer
+madeOf y d w = record { answer = 2 * y + d; writes = w ++ (padWrites y d ++ ((Live at 2 * y + d ≔ 1) ∷ [])); moved = 0 }
+
+abbrev pub madeBy : List ℕ → Plan → Answer
+madeBy a r = madeOf (r .at) (r .place) (leftWrites a (r .list) (r .next) (r .at) (r .grains) (r .keep) (r .«rest_list») (r .head))
+
+-- by the refusal: none, no list, damaged
+abbrev pub byRefusal : ℕ → Answer → Result Answer
+byRefusal zero x = ok x
+byRefusal (suc zero) x = no 1
+byRefusal (suc (suc n)) x = no 5
+
+abbrev pub shown : List ℕ → Plan → Result Answer
+shown a r = byRefusal (r .refusal) (madeBy a r)
+
+abbrev pub Refuses : ℕ → Plan → Type 0
+Refuses w r = r .refusal ≡ w
+
+-- it is what the script answers
+abbrev pub Plans : List ℕ → List ℕ → ℕ → ℕ → Plan → Type 0
+Plans a l p u r = (v t : List ℕ) → shown a r ≡ run (memoryOf 8 (lent a l v t)) (takeScript (grains 8 a) classes p u)
+
+-- the part of the script behind the checks of the first block
+abbrev cutScript : ℕ → ℕ → ℕ → ℕ → ℕ → ℕ → ℕ → Script Answer
+cutScript n k p u y s x = do
+  w ← leaveScript n classes (unlinkWrites k x none) y s (keeps (place u y) p)
+  done (madeOf y (place u y) w)
+
+abbrev pub Cuts : List ℕ → List ℕ → ℕ → ℕ → ℕ → ℕ → ℕ → ℕ → Plan → Type 0
+Cuts a l k y s x p u r = (v t : List ℕ) → shown a r ≡ run (memoryOf 8 (lent a l v t)) (cutScript (grains 8 a) k p u y s (link a x))
+
+-- ---- behind the first block
+
+-- what is kept is no more than what was wanted, which the block has
+pub keeps-within : (u y p s d m : ℕ) → 0 < u → d ≡ place u y → m ≡ keeps d p → wanted p u ≤ s → m ≤ s
+keeps-within u y p s d m h e q l =
+    let g : m ≡ keeps (place u y) p = q ∙ ap (λ (z : ℕ). keeps z p) e in
+    omega (arith, g, keeps-wanted u y p h)
+
+-- the rest is damaged
+pub cut-damaged : (a l : List ℕ) (k y s x p u d m : ℕ) (r : Plan) (o : Rest) → Refuses 5 r → d ≡ place u y → m ≡ keeps d p
+    → SeenRest a l k x s m o → o .ok ≡ false → Cuts a l k y s x p u r
+cut-damaged a l k y s x p u d m r o f e q w b v t =
+    let c = memoryOf 8 (lent a l v t) in
+    let g : m ≡ keeps (place u y) p = q ∙ ap (λ (z : ℕ). keeps z p) e in
+    let h = sym (w v t y) ∙ ap (λ (z : Bool). answer z (leftWrites a k x y s m (o .list) (o .head))) b in
+    ap (λ (z : ℕ). byRefusal z (madeBy a r)) f
+    ∙ sym (halts c (leaveScript (grains 8 a) classes (unlinkWrites k (link a x) none) y s (keeps (place u y) p)) _ (subst (λ (z : ℕ). run c (leaveScript (grains 8 a) classes (unlinkWrites k (link a x) none) y s z) ≡ no 5) g h))
+
+-- all agrees
+pub cut-made : (a l : List ℕ) (k y s x p u d m : ℕ) (o : Rest) → d ≡ place u y → m ≡ keeps d p
+    → SeenRest a l k x s m o → o .ok ≡ true
+    → Cuts a l k y s x p u (record { refusal = 0; list = k; at = y; grains = s; next = x; place = d; keep = m; «rest_list» = o .list; head = o .head })
+cut-made a l k y s x p u d m o e q w b v t =
+    let c = memoryOf 8 (lent a l v t) in
+    let g : m ≡ keeps (place u y) p = q ∙ ap (λ (z : ℕ). keeps z p) e in
+    let h = sym (w v t y) ∙ ap (λ (z : Bool). answer z (leftWrites a k x y s m (o .list) (o .head))) b in
+    ap (λ (z : ℕ). ok (madeOf y z (leftWrites a k x y s m (o .list) (o .head)))) e
+    ∙ sym (goes c (leaveScript (grains 8 a) classes (unlinkWrites k (link a x) none) y s (keeps (place u y) p)) _ (subst (λ (z : ℕ). run c (leaveScript (grains 8 a) classes (unlinkWrites k (link a x) none) y s z) ≡ ok (leftWrites a k x y s m (o .list) (o .head))) g h)
+    ∙ gives-done c _)
+
+-- ---- the search
+
+-- a search for 2 ^ n grains or more starts behind the lists of n classes
+pub start-large : (s n : ℕ) → 0 < s → 2 ^ n ≤ s → 16 * n ≤ startOf s
+start-large s n h l =
+    let e : floor (16 * n) ≡ 16 * 2 ^ n = ap floor (omega arith) ∙ floor-at n 0 (omega arith) in
+    let p = floor-order (16 * n) (startOf s + 1) (omega (arith, e, start-enough s h, floor-lt (startOf s) (startOf s + 1) (omega arith))) in
+    omega arith
+
+-- what is searched: the lists from k on
+abbrev found : List ℕ → ℕ → ℕ
+found l k = firstSet (mapBit l) (lists - k) k
+
+-- the part of the script behind the search
+abbrev fromList : ℕ → ℕ → ℕ → ℕ → Script Answer
+fromList n p u k = unlessLe 1 (suc k) (16 * classes) >> firstThen n k (λ y s x. cutScript n k p u y s x)
+
+-- it starts at list c and finds list k
+module _ (a l : List ℕ) (p u c k : ℕ) (startIs : c ≡ startOf (wanted p u)) (listIs : k ≡ found l c) where
+  searched : (v t : List ℕ) → run (memoryOf 8 (lent a l v t)) (takeScript (grains 8 a) classes p u) ≡ run (memoryOf 8 (lent a l v t)) (fromList (grains 8 a) p u k)
+  unfolding takeScript
+  searched v t =
+      let m = memoryOf 8 (lent a l v t) in
+      let i : found l (startOf (wanted p u)) ≡ k = ap (found l) (sym startIs) ∙ sym listIs in
+      searches m (lists - startOf (wanted p u)) (startOf (wanted p u)) _
+      (first-agree (m Mark) (mapBit l) (lists - startOf (wanted p u)) (startOf (wanted p u)) (λ j _ _. memory-mark 8 (lent a l v t) j) ∙ i)
+
+  -- no list has a block
+  pub plan-none : (r : Plan) → Refuses 1 r → lists ≤ k → Plans a l p u r
+  plan-none r e h v t =
+      let m = memoryOf 8 (lent a l v t) in
+      ap (λ (z : ℕ). byRefusal z (madeBy a r)) e
+      ∙ sym (searched v t ∙ halts m (unlessLe 1 (suc k) (16 * classes)) _ (halts-le m 1 (suc k) (16 * classes) (omega arith)))
+
+  module _ (h : k < lists) (o : First) (w : SeenFirst a l k o) where
+    seen : (v t : List ℕ) → run (memoryOf 8 (lent a l v t)) (takeScript (grains 8 a) classes p u)
+        ≡ after (o .ok) (run (memoryOf 8 (lent a l v t)) (cutScript (grains 8 a) k p u (o .at) (o .grains) (link a (o .next))))
+    seen v t =
+        let m = memoryOf 8 (lent a l v t) in
+        searched v t ∙ goes m (unlessLe 1 (suc k) (16 * classes)) _ (gives-le m 1 (suc k) (16 * classes) (omega arith))
+        ∙ w .seen v t (cutScript (grains 8 a) k p u)
+
+    -- its first block is damaged
+    pub plan-damaged : (r : Plan) → Refuses 5 r → o .ok ≡ false → Plans a l p u r
+    plan-damaged r e b v t =
+        ap (λ (z : ℕ). byRefusal z (madeBy a r)) e
+        ∙ sym (seen v t ∙ ap (λ (z : Bool). after z (run (memoryOf 8 (lent a l v t)) (cutScript (grains 8 a) k p u (o .at) (o .grains) (link a (o .next))))) b)
+
+    -- its first block is taken
+    pub plan-cut : (r : Plan) → o .ok ≡ true → Cuts a l k (o .at) (o .grains) (o .next) p u r → Plans a l p u r
+    plan-cut r b q v t =
+        q v t
+        ∙ sym (seen v t ∙ ap (λ (z : Bool). after z (run (memoryOf 8 (lent a l v t)) (cutScript (grains 8 a) k p u (o .at) (o .grains) (link a (o .next))))) b)
+
+    -- and has what is wanted
+    pub plan-enough : 0 < wanted p u → o .ok ≡ true → wanted p u ≤ o .grains
+    plan-enough i b =
+        let j = w .inside b in
+        start-fits (wanted p u) (o .grains) i (j .1) (omega (arith, j .2, startIs, listIs, first-from (mapBit l) (lists - c) c))
+
+-- so much is wanted that no list has it
+pub plan-large : (a l : List ℕ) (p u w : ℕ) (r : Plan) → Refuses 1 r → w ≡ wanted p u → 4096 ≤ w → Plans a l p u r
+plan-large a l p u w r e i h =
+    plan-none a l p u (startOf (wanted p u)) (found l (startOf (wanted p u))) refl refl r e
+    (omega (arith, start-large (wanted p u) 12 (omega arith) (omega arith), first-from (mapBit l) (lists - startOf (wanted p u)) (startOf (wanted p u))))

@@ -1,0 +1,98 @@
+-- What is left of a block: its list, and the head that it is put before. The block was the first of list k, so where the
+-- rest goes to the same list, its head will be what is next. Each law is one return of the code.
+use Prim.Native.Nat.{ℕ, suc, _+_, _-_, _*_, _≤_, _<_}
+use native.Mathlib.Omega.{arith}
+use mathlib.Core.Path.{_≡_, refl, ap, sym, _∙_, subst}
+use mathlib.Core.Bool.{Bool, true, false}
+use mathlib.Core.List.{List, [], _∷_, _++_}
+use mathlib.Core.Logic.{⊎-elim}
+use Rattle.choice.specs.Choice.{ifEq, eq-yes, eq-no, eq-case, same?}
+use Rattle.bits.specs.Map.{lists}
+use Rattle.class.specs.Class.{listOf, list-mono}
+use Rattle.script.specs.Memory.{Memory, Next, Prev, Mark, none, root, Write, _at_≔_, latest}
+use Rattle.script.specs.Script.{Script, Result, ok, no, run, done, _>>=_, _>>_, goes, halts, gives-done, gives-le}
+use Rattle.sound.specs.Checks.{mustList, seeHead}
+use Rattle.sound.specs.Links.{node, unlinkWrites, pushWrites}
+use Rattle.sound.specs.Plans.{wholeWrites, splitWrites, leaveScript}
+use Rattle.slices.specs.Decode.{grains}
+use Rattle.slices.specs.Slices.{memoryOf}
+use Rattle.free_list.specs.declared.Head.{Head}
+use Rattle.free_list.specs.Lent.{lent, link}
+use Rattle.free_list.specs.Back.{answer}
+use Rattle.free_list.specs.Seen.{shownHead, SeenHead}
+use Rattle.allocate.specs.declared.Rest.{Rest}
+
+-- twelve first-level classes
+abbrev pub classes : ℕ
+classes = 12
+
+-- the first block of list k, of s grains at y, whose next is the word x, leaves its list and keeps m grains; the rest, if
+-- any, goes before the word h, the head of list q
+abbrev pub leftWrites : List ℕ → ℕ → ℕ → ℕ → ℕ → ℕ → ℕ → ℕ → List Write
+leftWrites a k x y s m q h = ifEq m s
+    (unlinkWrites k (link a x) none ++ wholeWrites y s)
+    ((unlinkWrites k (link a x) none ++ pushWrites q (y + m) (link a h)) ++ splitWrites y s m)
+
+-- the answer is that of the script, wherever the block is
+abbrev pub SeenRest : List ℕ → List ℕ → ℕ → ℕ → ℕ → ℕ → Rest → Type 0
+SeenRest a l k x s m r = (v t : List ℕ) (y : ℕ) →
+    answer (r .ok) (leftWrites a k x y s m (r .list) (r .head)) ≡ run (memoryOf 8 (lent a l v t)) (leaveScript (grains 8 a) classes (unlinkWrites k (link a x) none) y s m)
+
+-- the head of list q, as it is after the first block of list k left
+head-latest : (k x q v : ℕ) → latest (unlinkWrites k x none) Next (root q) v ≡ ifEq q k x v
+head-latest k x q v =
+    eq-case (λ (w : List Write). latest w Next (root q) (ifEq (root q) (node k none) x v) ≡ ifEq (root q) (node k none) x v) x none _ _
+    (λ _. eq-case (λ (w : List Write). latest w Next (root q) (ifEq (root q) (node k none) x v) ≡ ifEq (root q) (node k none) x v) none none _ _ (λ _. refl) (λ _. refl))
+    (λ _. refl)
+    ∙ ap (λ (z : ℕ). ifEq (root q) z x v) (eq-yes none none (root k) none refl)
+    ∙ ⊎-elim
+    (λ (e : q ≡ k). eq-yes (root q) (root k) x v (ap root e) ∙ sym (eq-yes q k x v e))
+    (λ (n : q ≡ k → ⊥). eq-no (root q) (root k) x v (λ e. n (omega arith)) ∙ sym (eq-no q k x v n))
+    (same? q k)
+
+link-either : (a : List ℕ) (q k x h : ℕ) → link a (ifEq q k x h) ≡ ifEq q k (link a x) (link a h)
+link-either a q k x h = ⊎-elim
+    (λ (e : q ≡ k). ap (link a) (eq-yes q k x h e) ∙ sym (eq-yes q k (link a x) (link a h) e))
+    (λ (n : q ≡ k → ⊥). ap (link a) (eq-no q k x h n) ∙ sym (eq-no q k (link a x) (link a h) n))
+    (same? q k)
+
+-- the rest of a block that has a list has one
+pub rest-listed : (s m k : ℕ) → m ≤ s → (m ≡ s → ⊥) → listOf s ≡ k → k < lists → listOf (s - m) < lists
+rest-listed s m k h n e j = omega (arith, list-mono (s - m) s (omega (arith, n)) (omega arith))
+
+-- nothing is left
+pub rest-none : (a l : List ℕ) (k x s m : ℕ) → m ≡ s → SeenRest a l k x s m (record { ok = true; list = 0; head = 0 })
+unfolding leaveScript
+rest-none a l k x s m e v t y =
+    let c = memoryOf 8 (lent a l v t) in
+    ap ok (eq-yes m s _ _ e) ∙ sym (ap (run c) (eq-yes m s _ _ e) ∙ gives-done c _)
+
+-- the rest goes to list q, whose head was seen
+pub rest-some : (a l : List ℕ) (k x s m q h : ℕ) (r : Head) → (m ≡ s → ⊥) → q ≡ listOf (s - m) → q < lists → SeenHead a l q r → h ≡ ifEq q k x (r .word)
+    → SeenRest a l k x s m (record { ok = r .ok; list = q; head = h })
+unfolding leaveScript
+rest-some a l k x s m q h r n e j w d v t y =
+    go (r .ok) (w v t) ∙ sym (ap (run c) (eq-no m s _ _ n))
+  where
+    c : Memory
+    c = memoryOf 8 (lent a l v t)
+
+    u : List Write
+    u = unlinkWrites k (link a x) none
+
+    split : ℕ → ℕ → List Write
+    split q h = (u ++ pushWrites q (y + m) h) ++ splitWrites y s m
+
+    rest : Script (List Write)
+    rest = mustList classes (s - m) >> (seeHead (grains 8 a) (listOf (s - m)) >>= λ g. done (split (listOf (s - m)) (latest u Next (root (listOf (s - m))) g)))
+
+    listed : run c rest ≡ run c (seeHead (grains 8 a) q >>= λ g. done (split q (latest u Next (root q) g)))
+    listed = goes c (mustList classes (s - m)) _ (gives-le c 5 (suc (listOf (s - m))) (16 * classes) (omega arith))
+        ∙ ap (λ (z : ℕ). run c (seeHead (grains 8 a) z >>= λ g. done (split z (latest u Next (root z) g)))) (sym e)
+
+    head : link a h ≡ latest u Next (root q) (link a (r .word))
+    head = ap (link a) d ∙ link-either a q k x (r .word) ∙ sym (head-latest k (link a x) q (link a (r .word)))
+
+    go : (b : Bool) → answer b (link a (r .word)) ≡ run c (seeHead (grains 8 a) q) → answer b (leftWrites a k x y s m q h) ≡ run c rest
+    go true z = ap ok (eq-no m s _ _ n ∙ ap (split q) head) ∙ sym (listed ∙ goes c (seeHead (grains 8 a) q) _ (sym z) ∙ gives-done c _)
+    go false z = sym (listed ∙ halts c (seeHead (grains 8 a) q) _ (sym z))
