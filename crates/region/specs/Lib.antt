@@ -1,5 +1,6 @@
--- What the table of the regions says of a new one (Look), whether the new one can be given (Admit), and one piece of it laid
--- out (Piece).
+-- What the table of the regions says of a new one (Look), whether the new one can be given (Admit), one piece of it laid
+-- out (Piece), and the new one entered in the table (Entered).
 pub mod Look
 pub mod Admit
 pub mod Piece
+pub mod Entered

@@ -13,6 +13,7 @@ ghost use Rattle.sound.specs.RegionPlan.{pieceWrites};
 ghost use Rattle.free_list.specs.Lent.{link};
 ghost use Rattle.free_list.specs.Written.{Written};
 ghost use Rattle.region.specs.Piece.{Placeable};
+ghost use Rattle.region.specs.Entered.{withRegion};
 ghost use Rattle.region.specs.Look.{Overlap, LookedThrough};
 ghost use Rattle.region.specs.Admit.{Answered, AnsweredBeside};
 
@@ -189,4 +190,15 @@ fn put_header(a: &mut [u8], g: usize, size: u64, before: u64)
 {
     header::put_field(a, g, SIZE, size);
     header::put_field(a, g, BEFORE, before);
+}
+
+// The region from g to end as one more entry of the table.
+pub fn enter_region(regions: &mut [u64], g: usize, end: usize)
+    requires { ⌜ 2 * entry (now regions) 0 + 3 ≤ length (now regions) ⌝ }
+    ensures { λ r. ⌜ now (regions .exit) ≡ withRegion (now (regions .entry)) g end ⌝ }
+{
+    let r = number(regions, 0);
+    table::store(regions, 2 * r + 1, g as u64);
+    table::store(regions, 2 * r + 2, end as u64);
+    table::store(regions, 0, r as u64 + 1);
 }
