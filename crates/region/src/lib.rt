@@ -1,5 +1,6 @@
-// Giving a region: the table of the regions is looked through, so that nothing is given twice. Regions are counted in
-// grains. An entry that can't be right is remembered, and not refused before it is known that no entry overlaps.
+// Giving a region, in parts: the table of the regions is looked through, so that nothing is given twice; the pieces are laid
+// out; the region is entered in the table. Regions are counted in grains. An entry that can't be right is remembered, and not
+// refused before it is known that no entry overlaps.
 ghost use mathlib.Core.Path.{_≡_};
 ghost use Prim.Native.Nat.{_+_, _*_, _≤_, _<_};
 ghost use lib.ListN.{length};
@@ -13,9 +14,13 @@ ghost use Rattle.sound.specs.RegionPlan.{pieceWrites};
 ghost use Rattle.free_list.specs.Lent.{link};
 ghost use Rattle.free_list.specs.Written.{Written};
 ghost use Rattle.region.specs.Piece.{Placeable};
+ghost use Rattle.region.specs.Pieces.{fullWrites, Layable};
 ghost use Rattle.region.specs.Entered.{withRegion};
 ghost use Rattle.region.specs.Look.{Overlap, LookedThrough};
 ghost use Rattle.region.specs.Admit.{Answered, AnsweredBeside};
+
+// The grains of a piece that is as long as a piece can be.
+const PIECE: usize = 4096;
 
 // The first two fields of a header.
 const SIZE: usize = 0;
@@ -181,6 +186,20 @@ pub fn lay_piece(a: &mut [u8], lists: &mut [u64], x: usize, m: usize, h: u64)
     put_header(a, x + s, SENTINEL, header::bytes_of(x));
     let k = class::map_floor(s as u64) as usize;
     free_list::push(a, lists, k, x, h);
+}
+
+// `count` pieces from g on that are as long as a piece can be, before h in their list.
+pub fn lay_full(a: &mut [u8], lists: &mut [u64], g: usize, count: usize, h: u64)
+    requires { ⌜ Layable (now a) (now lists) g count h ⌝ }
+    ensures { λ r. ⌜ Written (now (a .entry)) (now (lists .entry)) (fullWrites g (link (now (a .entry)) h) count) (now (a .exit)) (now (lists .exit)) ⌝ }
+{
+    let mut head = h;
+    let mut i = 0;
+    while i < count {
+        lay_piece(a, lists, g + PIECE * i, PIECE, head);
+        head = header::bytes_of(g + PIECE * i);
+        i += 1;
+    }
 }
 
 // The size and the block before, as words, of the header at g.
