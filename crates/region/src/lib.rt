@@ -1,5 +1,6 @@
-// Giving a region: the table of the regions is looked through, so that nothing is given twice. Regions are counted in
-// grains. An entry that can't be right is remembered, and not refused before it is known that no entry overlaps.
+// Giving a region, in parts: the table of the regions is looked through, so that nothing is given twice; the pieces are laid
+// out; the region is entered in the table. Regions are counted in grains. An entry that can't be right is remembered, and not
+// refused before it is known that no entry overlaps.
 ghost use mathlib.Core.Path.{_≡_};
 ghost use Prim.Native.Nat.{_+_, _*_, _≤_, _<_};
 ghost use lib.ListN.{length};
@@ -7,8 +8,30 @@ ghost use Rattle.choice.specs.Choice.{ifEq};
 ghost use Rattle.choice.specs.Says.{Says};
 ghost use Rattle.table.specs.Table.{entry};
 ghost use Rattle.sound.specs.RegionPlan.{wrongOf};
+ghost use Rattle.word.specs.Word.{putAt};
+ghost use Rattle.slices.specs.Decode.{grains};
+ghost use Rattle.sound.specs.RegionPlan.{pieceWrites};
+ghost use Rattle.free_list.specs.Lent.{link};
+ghost use Rattle.free_list.specs.Written.{Written};
+ghost use Rattle.region.specs.Piece.{Placeable};
+ghost use Rattle.region.specs.Pieces.{fullWrites, Layable};
+ghost use Rattle.region.specs.Entered.{withRegion};
 ghost use Rattle.region.specs.Look.{Overlap, LookedThrough};
 ghost use Rattle.region.specs.Admit.{Answered, AnsweredBeside};
+
+// The grains of a piece that is as long as a piece can be.
+const PIECE: usize = 4096;
+
+// The first two fields of a header.
+const SIZE: usize = 0;
+
+const BEFORE: usize = 1;
+
+// The sentinel's size word: one grain, used, the last of its piece.
+const SENTINEL: u64 = 35;
+
+// A link that leads nowhere.
+const NONE: u64 = 18446744073709551615;
 
 // Answers: the table holds no more regions; the region is not one that can be given; the table can't be right.
 const FULL: usize = 6;
@@ -149,4 +172,52 @@ fn wrong_after(n: usize, first: usize, end: usize, before: usize) -> usize
         return 1;
     }
     before
+}
+
+// ---- laying out
+
+// A piece of m grains at x: a free block and its sentinel, before h in the block's list.
+pub fn lay_piece(a: &mut [u8], lists: &mut [u64], x: usize, m: usize, h: u64)
+    requires { ⌜ Placeable (now a) (now lists) x m h ⌝ }
+    ensures { λ r. ⌜ Written (now (a .entry)) (now (lists .entry)) (pieceWrites x m (link (now (a .entry)) h)) (now (a .exit)) (now (lists .exit)) ⌝ }
+{
+    let s = m - 1;
+    put_header(a, x, header::bytes_of(s), NONE);
+    put_header(a, x + s, SENTINEL, header::bytes_of(x));
+    let k = class::map_floor(s as u64) as usize;
+    free_list::push(a, lists, k, x, h);
+}
+
+// `count` pieces from g on that are as long as a piece can be, before h in their list.
+pub fn lay_full(a: &mut [u8], lists: &mut [u64], g: usize, count: usize, h: u64)
+    requires { ⌜ Layable (now a) (now lists) g count h ⌝ }
+    ensures { λ r. ⌜ Written (now (a .entry)) (now (lists .entry)) (fullWrites g (link (now (a .entry)) h) count) (now (a .exit)) (now (lists .exit)) ⌝ }
+{
+    let mut head = h;
+    let mut i = 0;
+    while i < count {
+        lay_piece(a, lists, g + PIECE * i, PIECE, head);
+        head = header::bytes_of(g + PIECE * i);
+        i += 1;
+    }
+}
+
+// The size and the block before, as words, of the header at g.
+fn put_header(a: &mut [u8], g: usize, size: u64, before: u64)
+    requires { ⌜ g < grains 8 (now a) ⌝ }
+    ensures { λ r. ⌜ now (a .exit) ≡ putAt 8 (putAt 8 (now (a .entry)) (4 * g) size) (4 * g + 1) before ⌝ }
+{
+    header::put_field(a, g, SIZE, size);
+    header::put_field(a, g, BEFORE, before);
+}
+
+// The region from g to end as one more entry of the table.
+pub fn enter_region(regions: &mut [u64], g: usize, end: usize)
+    requires { ⌜ 2 * entry (now regions) 0 + 3 ≤ length (now regions) ⌝ }
+    ensures { λ r. ⌜ now (regions .exit) ≡ withRegion (now (regions .entry)) g end ⌝ }
+{
+    let r = number(regions, 0);
+    table::store(regions, 2 * r + 1, g as u64);
+    table::store(regions, 2 * r + 2, end as u64);
+    table::store(regions, 0, r as u64 + 1);
 }
