@@ -43,11 +43,10 @@ madeOf y d w = record { answer = 2 * y + d; writes = w ++ (padWrites y d ++ ((Li
 abbrev pub madeBy : List ℕ → Plan → Answer
 madeBy a r = madeOf (r .at) (r .place) (leftWrites a (r .list) (r .next) (r .at) (r .grains) (r .keep) (r .«rest_list») (r .head))
 
--- by the refusal: none, no list, damaged
+-- refused, unless with 0
 abbrev pub byRefusal : ℕ → Answer → Result Answer
 byRefusal zero x = ok x
-byRefusal (suc zero) x = no 1
-byRefusal (suc (suc n)) x = no 5
+byRefusal (suc r) x = no (suc r)
 
 abbrev pub shown : List ℕ → Plan → Result Answer
 shown a r = byRefusal (r .refusal) (madeBy a r)
