@@ -1,5 +1,4 @@
 -- The steps of `seeBehind` and of `seeBefore`, as the code takes them: at each return one law says what the script answers.
--- 12 first-level classes, 192 lists.
 use Prim.Native.Nat.{ℕ, suc, _+_, _*_, _≤_, _<_}
 use native.Mathlib.Omega.{arith}
 use mathlib.Core.Path.{_≡_, refl, ap, sym, _∙_}
@@ -9,11 +8,12 @@ use mathlib.Core.Logic.{⊎-elim}
 use lib.Dec.{eqb}
 use lib.ListN.{length}
 use borrow.Author.Tests.{eq-eqb, ne-eqb}
-use Rattle.choice.specs.Choice.{ifEq, eq-yes, eq-no, le?, same?}
+use Rattle.choice.specs.Choice.{eq-yes, eq-no, le?, same?}
 use Rattle.class.specs.Class.{listOf}
 use Rattle.word.specs.Word.{wordAt}
+use Rattle.bits.specs.Map.{lists}
 use Rattle.script.specs.Memory.{Memory, Size, Before, none}
-use Rattle.script.specs.Script.{Script, Result, run, ok, no, done, stop, _>>=_, _>>_, unlessLe, mustEq, mustLe, goes, halts, reads, gives-done, gives-eq, gives-le, halts-eq, halts-le, runs-stop}
+use Rattle.script.specs.Script.{Script, Result, run, ok, no, done, stop, _>>=_, _>>_, mustEq, mustLe, goes, halts, reads, gives-done, gives-eq, gives-le, halts-eq, halts-le, runs-stop}
 use Rattle.sound.specs.Checks.{Word, isFree, isUsed, isLast, isBad, wordOf, Entry, Beside, nobody, somebody, asBusy, mustBusy, mustLead, mustList, seeEntry, freeBehind, asBehind, seeBehind, freeBefore, asBefore, seeBefore}
 use Rattle.slices.specs.Decode.{grains, Inside}
 use Rattle.slices.specs.Arena.{sizeAt, linkAt, size-inside}
@@ -24,28 +24,33 @@ use Rattle.free_list.specs.Lent.{lent, noLink, link, link-none, link-some, link
 use Rattle.free_list.specs.Back.{answer}
 use Rattle.free_list.specs.Seen.{shownEntry}
 use Rattle.free_list.specs.declared.Entry.{Entry as EntryAnswer}
-use Rattle.neighbours.specs.Shown.{held, before-read, before-link, link-from, alone, shownBeside, someone, someone-is}
+use Rattle.neighbours.specs.declared.Beside.{Beside as BesideAnswer}
+use Rattle.neighbours.specs.Shown.{held, classes, before-read, before-link, link-from, alone, shownBeside, someone, someone-is}
 
 -- ---- a free block in the list of its size
 
 abbrev pub seeListed : ℕ → ℕ → ℕ → Script Beside
 seeListed n t y = do
-  mustList 12 t
+  mustList classes t
   e ← seeEntry n (listOf t) y
   done (somebody t e)
 
+-- the answer on t grains at y is that of the script
+abbrev pub SeenListed : List ℕ → List ℕ → ℕ → ℕ → BesideAnswer → Type 0
+SeenListed a l t y r = (v u : List ℕ) → shownBeside a r ≡ run (held a l v u) (seeListed (grains 8 a) t y)
+
 module _ (a l v r : List ℕ) (t y k : ℕ) (j : k ≡ listOf t) where
   -- the size has no list
-  pub listed-none : 192 ≤ k → no 5 ≡ run (held a l v r) (seeListed (grains 8 a) t y)
-  listed-none h = let m = held a l v r in sym (halts m (mustList 12 t) _ (halts-le m 5 (suc (listOf t)) 192 (omega arith)))
+  pub listed-none : lists ≤ k → no 5 ≡ run (held a l v r) (seeListed (grains 8 a) t y)
+  listed-none h = let m = held a l v r in sym (halts m (mustList classes t) _ (halts-le m 5 (suc (listOf t)) lists (omega arith)))
 
   -- the rest hangs on the list
-  pub listed-entry : k < 192 → 1 ≤ t → (e : EntryAnswer) → shownEntry a e ≡ run (held a l v r) (seeEntry (grains 8 a) k y)
+  pub listed-entry : k < lists → 1 ≤ t → (e : EntryAnswer) → shownEntry a e ≡ run (held a l v r) (seeEntry (grains 8 a) k y)
       → shownBeside a (record { ok = e .ok; grains = t; next = e .next; prev = e .prev }) ≡ run (held a l v r) (seeListed (grains 8 a) t y)
   listed-entry h p e q =
       let m = held a l v r in
       go (e .ok) (q ∙ ap (λ (i : ℕ). run m (seeEntry (grains 8 a) i y)) j)
-      ∙ sym (goes m (mustList 12 t) _ (gives-le m 5 (suc (listOf t)) 192 (omega arith)))
+      ∙ sym (goes m (mustList classes t) _ (gives-le m 5 (suc (listOf t)) lists (omega arith)))
     where
       found : Entry
       found = record { next = link a (e .next); prev = link a (e .prev) }
@@ -69,6 +74,7 @@ free-inside a y t e ne = go (wordOf (sizeAt 8 a y)) e (size-inside 8 a y)
     go isLast e i = absurd (ne e)
     go isBad e i = absurd (ne e)
 
+-- the word of a free block
 free-some : (w : Word) → (freeOf w ≡ 0 → ⊥) → w ≡ isFree (freeOf w)
 free-some (isFree s) h = refl
 free-some (isUsed s) h = absurd (h refl)
@@ -76,6 +82,7 @@ free-some isLast h = absurd (h refl)
 free-some isBad h = absurd (h refl)
 
 module _ (m : Memory) where
+  -- a busy block passes, and no other
   busy-yes : (w : Word) → busyOf w ≡ true → run m (asBusy w) ≡ ok (tt {0})
   busy-yes (isFree s) e = cc
   busy-yes (isUsed s) e = gives-done m (tt {0})
@@ -104,59 +111,62 @@ module _ (m : Memory) where
 -- ---- behind a used block
 
 module _ (a l v r : List ℕ) (y t : ℕ) (f : t ≡ freeOf (wordOf (sizeAt 8 a y))) where
-  behind-word : run (held a l v r) (seeBehind (grains 8 a) 12 y) ≡ run (held a l v r) (asBehind (grains 8 a) 12 y (wordOf (sizeAt 8 a y)))
+  -- the size word is read
+  behind-word : run (held a l v r) (seeBehind (grains 8 a) classes y) ≡ run (held a l v r) (asBehind (grains 8 a) classes y (wordOf (sizeAt 8 a y)))
   unfolding seeBehind
   behind-word = reads (held a l v r) Size y _ (memory-size 8 (lent a l v r) y)
 
   -- no free block: a busy one, or none
-  pub behind-busy : t ≡ 0 → (b : Bool) → b ≡ busyOf (wordOf (sizeAt 8 a y)) → shownBeside a (alone b) ≡ run (held a l v r) (seeBehind (grains 8 a) 12 y)
+  pub behind-busy : t ≡ 0 → (b : Bool) → b ≡ busyOf (wordOf (sizeAt 8 a y)) → shownBeside a (alone b) ≡ run (held a l v r) (seeBehind (grains 8 a) classes y)
   behind-busy z b e = go (wordOf (sizeAt 8 a y)) e (sym z ∙ f) (size-inside 8 a y) ∙ sym behind-word
     where
-      go : (w : Word) → b ≡ busyOf w → 0 ≡ freeOf w → Inside (grains 8 a) y w → shownBeside a (alone b) ≡ run (held a l v r) (asBehind (grains 8 a) 12 y w)
+      go : (w : Word) → b ≡ busyOf w → 0 ≡ freeOf w → Inside (grains 8 a) y w → shownBeside a (alone b) ≡ run (held a l v r) (asBehind (grains 8 a) classes y w)
       go (isFree s) e q i = absurd (omega (arith, i .0))
       go (isUsed s) e q i = ap (λ (b : Bool). shownBeside a (alone b)) e ∙ sym (gives-done (held a l v r) nobody)
       go isLast e q i = ap (λ (b : Bool). shownBeside a (alone b)) e ∙ sym (gives-done (held a l v r) nobody)
       go isBad e q i = ap (λ (b : Bool). shownBeside a (alone b)) e ∙ sym (runs-stop (held a l v r) 5)
 
   module _ (z : t ≡ 0 → ⊥) where
-    behind-free : run (held a l v r) (seeBehind (grains 8 a) 12 y) ≡ run (held a l v r) (freeBehind (grains 8 a) 12 y t)
+    -- a free block
+    behind-free : run (held a l v r) (seeBehind (grains 8 a) classes y) ≡ run (held a l v r) (freeBehind (grains 8 a) classes y t)
     behind-free =
         let w : wordOf (sizeAt 8 a y) ≡ isFree t = free-some (wordOf (sizeAt 8 a y)) (λ p. z (f ∙ p)) ∙ ap isFree (sym f) in
-        behind-word ∙ ap (λ (w : Word). run (held a l v r) (asBehind (grains 8 a) 12 y w)) w
+        behind-word ∙ ap (λ (w : Word). run (held a l v r) (asBehind (grains 8 a) classes y w)) w
 
     -- no busy block is behind it
-    pub behind-idle : false ≡ busyOf (wordOf (sizeAt 8 a (y + t))) → no 5 ≡ run (held a l v r) (seeBehind (grains 8 a) 12 y)
+    pub behind-idle : false ≡ busyOf (wordOf (sizeAt 8 a (y + t))) → no 5 ≡ run (held a l v r) (seeBehind (grains 8 a) classes y)
     behind-idle e =
         let m = held a l v r in
-        sym (behind-free ∙ late-halts m (suc (listOf t)) 192 (mustBusy (y + t)) _
+        sym (behind-free ∙ late-halts m (suc (listOf t)) lists (mustBusy (y + t)) _
         (reads m Size (y + t) _ (memory-size 8 (lent a l v r) (y + t)) ∙ busy-no m (wordOf (sizeAt 8 a (y + t))) (sym e)))
 
     module _ (b : true ≡ busyOf (wordOf (sizeAt 8 a (y + t)))) where
-      behind-end : run (held a l v r) (seeBehind (grains 8 a) 12 y) ≡ run (held a l v r) (mustList 12 t >> (mustLead Before (y + t) y >> (seeEntry (grains 8 a) (listOf t) y >>= (λ e. done (somebody t e)))))
+      -- a busy one is behind it
+      behind-end : run (held a l v r) (seeBehind (grains 8 a) classes y) ≡ run (held a l v r) (mustList classes t >> (mustLead Before (y + t) y >> (seeEntry (grains 8 a) (listOf t) y >>= (λ e. done (somebody t e)))))
       behind-end =
           let m = held a l v r in
-          behind-free ∙ late-goes m (suc (listOf t)) 192 (mustBusy (y + t)) _
+          behind-free ∙ late-goes m (suc (listOf t)) lists (mustBusy (y + t)) _
           (reads m Size (y + t) _ (memory-size 8 (lent a l v r) (y + t)) ∙ busy-yes m (wordOf (sizeAt 8 a (y + t))) (sym b))
 
       -- that block doesn't lead back
-      pub behind-torn : (linkAt 8 a Before 0 (y + t) ≡ y → ⊥) → no 5 ≡ run (held a l v r) (seeBehind (grains 8 a) 12 y)
+      pub behind-torn : (linkAt 8 a Before 0 (y + t) ≡ y → ⊥) → no 5 ≡ run (held a l v r) (seeBehind (grains 8 a) classes y)
       behind-torn ne =
           let m = held a l v r in
-          sym (behind-end ∙ late-halts m (suc (listOf t)) 192 (mustLead Before (y + t) y) _
+          sym (behind-end ∙ late-halts m (suc (listOf t)) lists (mustLead Before (y + t) y) _
           (reads m Before (y + t) _ (before-read a l v r (y + t) (free-inside a y t f z .1)) ∙ halts-eq m 5 _ y ne))
 
       -- the rest hangs on the list
-      pub behind-listed : linkAt 8 a Before 0 (y + t) ≡ y → {o : Result Beside} → o ≡ run (held a l v r) (seeListed (grains 8 a) t y) → o ≡ run (held a l v r) (seeBehind (grains 8 a) 12 y)
+      pub behind-listed : linkAt 8 a Before 0 (y + t) ≡ y → {o : Result Beside} → o ≡ run (held a l v r) (seeListed (grains 8 a) t y) → o ≡ run (held a l v r) (seeBehind (grains 8 a) classes y)
       behind-listed e q =
           let m = held a l v r in
-          q ∙ sym (behind-end ∙ late-goes m (suc (listOf t)) 192 (mustLead Before (y + t) y) _
+          q ∙ sym (behind-end ∙ late-goes m (suc (listOf t)) lists (mustLead Before (y + t) y) _
           (reads m Before (y + t) _ (before-read a l v r (y + t) (free-inside a y t f z .1)) ∙ gives-eq m 5 _ y e))
 
 -- ---- before a used block
 
 module _ (a l v r : List ℕ) (x w : ℕ) (s : length a < 18446744073709551616) (i : x < grains 8 a) (e : w ≡ wordAt 8 a (4 * x + Before)) where
   -- nobody is said to be there
-  pub before-none : w ≡ noLink → ok nobody ≡ run (held a l v r) (seeBefore (grains 8 a) 12 x)
+  pub before-none : w ≡ noLink → ok nobody ≡ run (held a l v r) (seeBefore (grains 8 a) classes x)
   unfolding seeBefore
   before-none q =
       let m = held a l v r in
@@ -164,7 +174,7 @@ module _ (a l v r : List ℕ) (x w : ℕ) (s : length a < 18446744073709551616) 
 
   module _ (ne : w ≡ noLink → ⊥) (z : ℕ) (g : z ≡ turned w) where
     -- no grain before x
-    pub before-out : x ≤ z → no 5 ≡ run (held a l v r) (seeBefore (grains 8 a) 12 x)
+    pub before-out : x ≤ z → no 5 ≡ run (held a l v r) (seeBefore (grains 8 a) classes x)
     unfolding seeBefore
     before-out h =
         let m = held a l v r in
@@ -173,7 +183,8 @@ module _ (a l v r : List ℕ) (x w : ℕ) (s : length a < 18446744073709551616) 
         ∙ halts m (mustLe (suc (link a w)) x) _ (halts-le m 5 (suc (link a w)) x o))
 
     module _ (h : z < x) (t : ℕ) (f : t ≡ freeOf (wordOf (sizeAt 8 a z))) where
-      before-word : run (held a l v r) (seeBefore (grains 8 a) 12 x) ≡ run (held a l v r) (asBefore (grains 8 a) 12 x z (wordOf (sizeAt 8 a z)))
+      -- the size word of the block before is read
+      before-word : run (held a l v r) (seeBefore (grains 8 a) classes x) ≡ run (held a l v r) (asBefore (grains 8 a) classes x z (wordOf (sizeAt 8 a z)))
       unfolding seeBefore
       before-word =
           let m = held a l v r in
@@ -184,7 +195,7 @@ module _ (a l v r : List ℕ) (x w : ℕ) (s : length a < 18446744073709551616) 
           ∙ goes m (mustLe (suc z) x) _ (gives-le m 5 (suc z) x h) ∙ reads m Size z _ (memory-size 8 (lent a l v r) z)
 
       -- a used block that reaches to x, or not
-      pub before-used : t ≡ 0 → (u : ℕ) → u ≡ usedOf (wordOf (sizeAt 8 a z)) → shownBeside a (alone (eqb (z + u) x)) ≡ run (held a l v r) (seeBefore (grains 8 a) 12 x)
+      pub before-used : t ≡ 0 → (u : ℕ) → u ≡ usedOf (wordOf (sizeAt 8 a z)) → shownBeside a (alone (eqb (z + u) x)) ≡ run (held a l v r) (seeBefore (grains 8 a) classes x)
       before-used q u p = go (wordOf (sizeAt 8 a z)) p (sym q ∙ f) (size-inside 8 a z) ∙ sym before-word
         where
           refusing : Script Beside
@@ -193,7 +204,7 @@ module _ (a l v r : List ℕ) (x w : ℕ) (s : length a < 18446744073709551616) 
           refuse : (u : ℕ) → u ≡ 0 → shownBeside a (alone (eqb (z + u) x)) ≡ run (held a l v r) refusing
           refuse u e = ap (λ (b : Bool). shownBeside a (alone b)) (ne-eqb (z + u) x (λ d. omega arith)) ∙ sym (runs-stop (held a l v r) 5)
 
-          go : (w : Word) → u ≡ usedOf w → 0 ≡ freeOf w → Inside (grains 8 a) z w → shownBeside a (alone (eqb (z + u) x)) ≡ run (held a l v r) (asBefore (grains 8 a) 12 x z w)
+          go : (w : Word) → u ≡ usedOf w → 0 ≡ freeOf w → Inside (grains 8 a) z w → shownBeside a (alone (eqb (z + u) x)) ≡ run (held a l v r) (asBefore (grains 8 a) classes x z w)
           go (isFree s) p q i = absurd (omega (arith, i .0))
           go (isUsed s) p q i =
               let m = held a l v r in
@@ -207,15 +218,16 @@ module _ (a l v r : List ℕ) (x w : ℕ) (s : length a < 18446744073709551616) 
           go isBad p q i = refuse u p
 
       module _ (n : t ≡ 0 → ⊥) where
-        before-free : run (held a l v r) (seeBefore (grains 8 a) 12 x) ≡ run (held a l v r) (freeBefore (grains 8 a) 12 x z t)
+        -- a free block
+        before-free : run (held a l v r) (seeBefore (grains 8 a) classes x) ≡ run (held a l v r) (freeBefore (grains 8 a) classes x z t)
         before-free =
             let w : wordOf (sizeAt 8 a z) ≡ isFree t = free-some (wordOf (sizeAt 8 a z)) (λ p. n (f ∙ p)) ∙ ap isFree (sym f) in
-            before-word ∙ ap (λ (w : Word). run (held a l v r) (asBefore (grains 8 a) 12 x z w)) w
+            before-word ∙ ap (λ (w : Word). run (held a l v r) (asBefore (grains 8 a) classes x z w)) w
 
         -- a free block that doesn't reach to x
-        pub before-apart : (z + t ≡ x → ⊥) → no 5 ≡ run (held a l v r) (seeBefore (grains 8 a) 12 x)
+        pub before-apart : (z + t ≡ x → ⊥) → no 5 ≡ run (held a l v r) (seeBefore (grains 8 a) classes x)
         before-apart d = let m = held a l v r in sym (before-free ∙ halts m (mustEq (z + t) x) _ (halts-eq m 5 (z + t) x d))
 
         -- the rest hangs on the list
-        pub before-listed : z + t ≡ x → {o : Result Beside} → o ≡ run (held a l v r) (seeListed (grains 8 a) t z) → o ≡ run (held a l v r) (seeBefore (grains 8 a) 12 x)
+        pub before-listed : z + t ≡ x → {o : Result Beside} → o ≡ run (held a l v r) (seeListed (grains 8 a) t z) → o ≡ run (held a l v r) (seeBefore (grains 8 a) classes x)
         before-listed d q = let m = held a l v r in q ∙ sym (before-free ∙ goes m (mustEq (z + t) x) _ (gives-eq m 5 (z + t) x d))

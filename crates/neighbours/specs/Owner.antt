@@ -1,10 +1,10 @@
 -- The steps of `seeOwner`, and of `blockOf`, as the code takes them: at each return one law says what the script answers.
-use Prim.Native.Nat.{ℕ, zero, suc, _+_, _-_, _*_, _/_, _%_, _≤_, _<_}
+use Prim.Native.Nat.{ℕ, suc, _+_, _-_, _*_, _/_, _%_, _≤_, _<_}
 use native.Mathlib.Omega.{arith}
 use mathlib.Core.Path.{_≡_, refl, ap, sym, _∙_}
 use mathlib.Core.List.{List}
 use lib.ListN.{length}
-use Rattle.choice.specs.Choice.{ifEq, ifLe, eq-yes, eq-no, le-yes, le-no}
+use Rattle.choice.specs.Choice.{eq-yes, eq-no, le-yes, le-no}
 use Rattle.word.specs.Word.{wordAt}
 use Rattle.bits.specs.TableBit.{tableBit}
 use Rattle.script.specs.Memory.{Memory, Size, Before, Prev, Live}
@@ -37,6 +37,7 @@ module _ (m : Memory) (q : ℕ) where
   block-in : (q % 2 ≡ 1 → ⊥) → {v : ℕ} → m Prev (q / 2 - 1) ≡ v → v < q / 2 → run m (blockOf q) ≡ ok v
   block-in ne {v} e h = block-even ne e ∙ goes m (mustLe (suc v) (q / 2)) _ (gives-le m 5 (suc v) (q / 2) h) ∙ gives-done m v
 
+-- a grain of the arena is an answer, and no other number
 shown-in : (n x : ℕ) → x < n → shownGrain n x ≡ ok x
 shown-in n x h = le-yes (suc x) n _ _ h
 
@@ -45,6 +46,7 @@ shown-out n x h = le-no (suc x) n _ _ (λ q. omega arith)
 
 -- as the code finds it in the lent slices
 module _ (a l v t : List ℕ) (q : ℕ) (i : q < 2 * grains 8 a) where
+  -- half a grain before the payload
   pub block-middle : q % 2 ≡ 1 → shownGrain (grains 8 a) (q / 2) ≡ run (held a l v t) (blockOf q)
   block-middle e = shown-in (grains 8 a) (q / 2) (omega arith) ∙ sym (block-odd (held a l v t) q e)
 
@@ -58,9 +60,11 @@ module _ (a l v t : List ℕ) (q : ℕ) (i : q < 2 * grains 8 a) where
       own-link : held a l v t Prev (q / 2 - 1) ≡ link a w
       own-link = memory-prev 8 (lent a l v t) (q / 2 - 1) ∙ link-in 8 a (q / 2 - 1) Prev wrongLink (omega arith) ∙ ap (link a) (sym e)
 
+      -- which leads to no grain before it
       pub block-past : q / 2 ≤ x → shownGrain (grains 8 a) n ≡ run (held a l v t) (blockOf q)
       block-past h = shown-out (grains 8 a) n (omega arith) ∙ sym (block-out (held a l v t) q ne (rw own-link (link-from a w (q / 2) s (omega arith) (omega arith))))
 
+      -- which leads to one
       pub block-before : x < q / 2 → shownGrain (grains 8 a) x ≡ run (held a l v t) (blockOf q)
       block-before h =
           let b : turned w < grains 8 a = omega arith in
@@ -76,9 +80,11 @@ ownerOf q x s = do
   mustLead Before (x + s) x
   done (record { at = x; grains = s })
 
+-- from its grain on
 abbrev pub ownerAt : ℕ → ℕ → Script Owner
 ownerAt q x = mustUsed x >>= ownerOf q x
 
+-- the word of a used block passes, and no other
 used-some : (w : Word) → (usedOf w ≡ 0 → ⊥) → w ≡ isUsed (usedOf w)
 used-some (isFree s) h = absurd (h refl)
 used-some (isUsed s) h = refl
@@ -111,6 +117,7 @@ module _ (a l v t : List ℕ) (q : ℕ) where
 
   -- one is
   module _ (b : ℕ) (e : b ≡ tableBit v q) (o : b ≡ 1) where
+    -- the bit is read
     owner-live : run (held a l v t) (seeOwner q) ≡ run (held a l v t) (blockOf q >>= ownerAt q)
     unfolding seeOwner
     owner-live =
@@ -123,6 +130,7 @@ module _ (a l v t : List ℕ) (q : ℕ) where
       owner-lost h = sym (owner-live ∙ halts (held a l v t) (blockOf q) _ (sym k ∙ shown-out (grains 8 a) x (omega arith)))
 
       module _ (h : x < n) (s : ℕ) (u : s ≡ usedOf (wordOf (sizeAt 8 a x))) where
+        -- the size word is read
         owner-there : run (held a l v t) (seeOwner q) ≡ run (held a l v t) (asUsed (wordOf (sizeAt 8 a x)) >>= ownerOf q x)
         owner-there =
             let m = held a l v t in
@@ -147,6 +155,7 @@ module _ (a l v t : List ℕ) (q x s : ℕ) where
   owner-behind p = let m = held a l v t in halts m (mustLe q (2 * (x + s))) _ (halts-le m 5 q (2 * (x + s)) p)
 
   module _ (i : x + s < grains 8 a) (p : q ≤ 2 * (x + s)) where
+    -- the grain behind it is read
     owner-end : run (held a l v t) (ownerOf q x s) ≡ run (held a l v t) (mustEq (linkAt 8 a Before 0 (x + s)) x >> done (record { at = x; grains = s }))
     owner-end =
         let m = held a l v t in

@@ -2,7 +2,7 @@
 use Prim.Native.Nat.{ℕ, zero, suc, _+_, _*_, _≤_, _<_}
 use native.Mathlib.Omega.{arith}
 use mathlib.Core.Path.{_≡_, refl, ap, sym, _∙_}
-use mathlib.Core.Bool.{Bool, true, false}
+use mathlib.Core.Bool.{Bool}
 use mathlib.Core.List.{List}
 use mathlib.Core.Logic.{⊎-elim}
 use lib.ListN.{length}
@@ -10,8 +10,8 @@ use Rattle.choice.specs.Choice.{ifLe, le?}
 use Rattle.word.specs.Word.{wordAt}
 use Rattle.bits.specs.Map.{mapWords, lists}
 use Rattle.script.specs.Memory.{Memory, Before}
-use Rattle.script.specs.Script.{Result, ok, no}
-use Rattle.sound.specs.Checks.{Entry, Owner, Beside, nobody, somebody}
+use Rattle.script.specs.Script.{Result, ok, no, run}
+use Rattle.sound.specs.Checks.{Entry, Owner, Beside, nobody, somebody, blockOf, seeOwner, seeBehind, seeBefore}
 use Rattle.slices.specs.Decode.{grains, wrongLink}
 use Rattle.slices.specs.Arena.{linkAt, link-in}
 use Rattle.slices.specs.Slices.{memoryOf, memory-before}
@@ -25,6 +25,10 @@ use Rattle.neighbours.specs.declared.Beside.{Beside as BesideAnswer}
 abbrev pub held : List ℕ → List ℕ → List ℕ → List ℕ → Memory
 held a l v t = memoryOf 8 (lent a l v t)
 
+-- the first-level classes, of 16 lists each
+abbrev pub classes : ℕ
+classes = 12
+
 -- the table of the lists has a place for each head
 abbrev pub Long : List ℕ → Type 0
 Long l = mapWords + lists ≤ length l
@@ -36,15 +40,24 @@ abbrev pub unless : {A : Type 0} → ℕ → A → Result A
 unless zero x = ok x
 unless (suc r) x = no (suc r)
 
+-- a refusal, with no block
 abbrev pub refusal : ℕ → OwnerAnswer
 refusal r = record { refusal = r; at = 0; grains = 0 }
 
+-- the block, or the refusal
 abbrev pub shownOwner : OwnerAnswer → Result Owner
 shownOwner r = unless (r .refusal) (record { at = r .at; grains = r .grains })
 
 -- a grain of an arena of n; from there on the records contradict each other
 abbrev pub shownGrain : ℕ → ℕ → Result ℕ
 shownGrain n x = ifLe (suc x) n (ok x) (no 5)
+
+-- the answers on the payload at q are the scripts', whatever the other slices hold
+abbrev pub SeenOwner : List ℕ → List ℕ → ℕ → OwnerAnswer → Type 0
+SeenOwner a v q r = (l t : List ℕ) → shownOwner r ≡ run (held a l v t) (seeOwner q)
+
+abbrev pub SeenBlock : List ℕ → ℕ → ℕ → Type 0
+SeenBlock a q r = (l v t : List ℕ) → shownGrain (grains 8 a) r ≡ run (held a l v t) (blockOf q)
 
 -- ---- a block beside a used one
 
@@ -53,12 +66,22 @@ abbrev pub someone : ℕ → Entry → Beside
 someone zero e = nobody
 someone (suc t) e = somebody (suc t) e
 
+-- the answer with no block
 abbrev pub alone : Bool → BesideAnswer
 alone b = record { ok = b; grains = 0; next = noLink; prev = noLink }
 
+-- the block with what its links say, or nobody; or refusal 5
 abbrev pub shownBeside : List ℕ → BesideAnswer → Result Beside
 shownBeside a r = answer (r .ok) (someone (r .grains) (record { next = link a (r .next); prev = link a (r .prev) }))
 
+-- the answers on what is behind, at y, and on what is before x
+abbrev pub SeenBehind : List ℕ → List ℕ → ℕ → BesideAnswer → Type 0
+SeenBehind a l y r = (v t : List ℕ) → shownBeside a r ≡ run (held a l v t) (seeBehind (grains 8 a) classes y)
+
+abbrev pub SeenBefore : List ℕ → List ℕ → ℕ → BesideAnswer → Type 0
+SeenBefore a l x r = (v t : List ℕ) → shownBeside a r ≡ run (held a l v t) (seeBefore (grains 8 a) classes x)
+
+-- a block has grains
 pub someone-is : (t : ℕ) (e : Entry) → 1 ≤ t → someone t e ≡ somebody t e
 someone-is zero e h = absurd (omega arith)
 someone-is (suc t) e h = refl
@@ -70,6 +93,7 @@ module _ (a l v t : List ℕ) (g : ℕ) (i : g < grains 8 a) where
   pub before-read : held a l v t Before g ≡ linkAt 8 a Before 0 g
   before-read = memory-before 8 (lent a l v t) g ∙ link-in 8 a g Before wrongLink i ∙ sym (link-in 8 a g Before 0 i)
 
+  -- and the word that says so
   pub before-link : (w : ℕ) → w ≡ wordAt 8 a (4 * g + Before) → held a l v t Before g ≡ link a w
   before-link w e = memory-before 8 (lent a l v t) g ∙ link-in 8 a g Before wrongLink i ∙ ap (link a) (sym e)
 

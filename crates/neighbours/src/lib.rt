@@ -1,18 +1,16 @@
 // The block of a live payload, and the blocks beside a used one: everything that must hang together before a call writes.
 // Each check is a script's, carried out on the lent slices.
 ghost use mathlib.Core.Path.{_≡_};
-ghost use mathlib.Core.List.{List};
-ghost use Prim.Native.Nat.{ℕ, _+_, _*_, _≤_, _<_};
+ghost use Prim.Native.Nat.{_*_, _≤_, _<_};
 ghost use lib.ListN.{length};
-ghost use Rattle.script.specs.Script.{run};
-ghost use Rattle.sound.specs.Checks.{blockOf, seeOwner, seeBehind, seeBefore};
 ghost use Rattle.slices.specs.Decode.{grains};
-ghost use Rattle.neighbours.specs.Shown.{held, Long, shownGrain, refusal, shownOwner, alone, shownBeside};
-ghost use Rattle.neighbours.specs.Beside.{seeListed};
+ghost use Rattle.neighbours.specs.Shown.{Long, refusal, alone, SeenOwner, SeenBlock, SeenBehind, SeenBefore};
+ghost use Rattle.neighbours.specs.Beside.{SeenListed};
 
-// The fields of a header that say which block is before, and before a payload at a grain which block is its own.
+// The field of a header that says which block is before.
 const BEFORE: usize = 1;
 
+// The last field of a grain: before a payload that stands at a grain it says which block is its own.
 const PREV: usize = 3;
 
 // A link that leads nowhere.
@@ -39,7 +37,7 @@ pub struct Owner {
 // The used block whose live payload is at q, counted in half grains.
 pub fn see_owner(a: &[u8], live: &[u64], q: usize) -> Owner
     requires { ⌜ (q < 64 * length (now live)) × (q < 2 * grains 8 (now a)) ⌝ }
-    ensures { λ r. ⌜ ((l t : List ℕ) → shownOwner r ≡ run (held (now (a .entry)) l (now (live .entry)) t) (seeOwner q)) ⌝ }
+    ensures { λ r. ⌜ SeenOwner (now (a .entry)) (now (live .entry)) q r ⌝ }
 {
     if bits::table_bit(live, q) != 1 {
         return refused(NOT_LIVE);
@@ -69,7 +67,7 @@ pub fn see_owner(a: &[u8], live: &[u64], q: usize) -> Owner
 // that word leads to no grain before q.
 fn block_of(a: &[u8], q: usize) -> usize
     requires { ⌜ q < 2 * grains 8 (now a) ⌝ }
-    ensures { λ r. ⌜ ((l v t : List ℕ) → shownGrain (grains 8 (now (a .entry))) r ≡ run (held (now (a .entry)) l v t) (blockOf q)) ⌝ }
+    ensures { λ r. ⌜ SeenBlock (now (a .entry)) q r ⌝ }
 {
     let g = q / 2;
     if q % 2 == 1 {
@@ -85,6 +83,7 @@ fn block_of(a: &[u8], q: usize) -> usize
     x
 }
 
+// A refusal, with no block.
 fn refused(why: u64) -> Owner
     ensures { λ r. ⌜ r ≡ refusal why ⌝ }
 {
@@ -108,7 +107,7 @@ pub struct Beside {
 // What stands at y, behind a used block.
 pub fn see_behind(a: &[u8], lists: &[u64], y: usize) -> Beside
     requires { ⌜ (y < grains 8 (now a)) × Long (now lists) ⌝ }
-    ensures { λ r. ⌜ ((v t : List ℕ) → shownBeside (now (a .entry)) r ≡ run (held (now (a .entry)) (now (lists .entry)) v t) (seeBehind (grains 8 (now (a .entry))) 12 y)) ⌝ }
+    ensures { λ r. ⌜ SeenBehind (now (a .entry)) (now (lists .entry)) y r ⌝ }
 {
     let t = header::free_at(a, y);
     if t == 0 {
@@ -126,7 +125,7 @@ pub fn see_behind(a: &[u8], lists: &[u64], y: usize) -> Beside
 // What stands before the block at x.
 pub fn see_before(a: &[u8], lists: &[u64], x: usize) -> Beside
     requires { ⌜ (x < grains 8 (now a)) × Long (now lists) ⌝ }
-    ensures { λ r. ⌜ ((v t : List ℕ) → shownBeside (now (a .entry)) r ≡ run (held (now (a .entry)) (now (lists .entry)) v t) (seeBefore (grains 8 (now (a .entry))) 12 x)) ⌝ }
+    ensures { λ r. ⌜ SeenBefore (now (a .entry)) (now (lists .entry)) x r ⌝ }
 {
     let word = header::field(a, x, BEFORE);
     if word == NONE {
@@ -149,7 +148,7 @@ pub fn see_before(a: &[u8], lists: &[u64], x: usize) -> Beside
 // The free block of t grains at y, in the list of its size.
 fn see_listed(a: &[u8], lists: &[u64], t: usize, y: usize) -> Beside
     requires { ⌜ (y < grains 8 (now a)) × Long (now lists) × (1 ≤ t) × (t < grains 8 (now a)) ⌝ }
-    ensures { λ r. ⌜ ((v u : List ℕ) → shownBeside (now (a .entry)) r ≡ run (held (now (a .entry)) (now (lists .entry)) v u) (seeListed (grains 8 (now (a .entry))) t y)) ⌝ }
+    ensures { λ r. ⌜ SeenListed (now (a .entry)) (now (lists .entry)) t y r ⌝ }
 {
     let k = class::map_floor(t as u64) as usize;
     if LISTS <= k {
@@ -164,6 +163,7 @@ fn see_listed(a: &[u8], lists: &[u64], t: usize, y: usize) -> Beside
     }
 }
 
+// The answer with no block.
 fn nobody(ok: bool) -> Beside
     ensures { λ r. ⌜ r ≡ alone ok ⌝ }
 {

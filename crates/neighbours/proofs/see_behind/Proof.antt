@@ -1,8 +1,7 @@
 -- `neighbours::see_behind`: each return is one step of the script.
 use native.Mathlib.Omega.{arith}
-use mathlib.Core.Path.{_≡_, ap, sym, _∙_}
-use mathlib.Core.List.{List}
-use Prim.Native.Nat.{ℕ, _+_, _≤_, _<_}
+use mathlib.Core.Path.{ap, sym, _∙_}
+use Prim.Native.Nat.{_+_, _≤_, _<_}
 use borrow.Author.Tests.{not-true, not-false}
 use Rattle.choice.specs.Says.{says-yes, says-no}
 use Rattle.slices.specs.Decode.{grains}
