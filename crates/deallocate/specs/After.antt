@@ -1,7 +1,7 @@
 -- A neighbour of the block that is returned leaves its list: what is written then, and what its leaving changes of what was
 -- read before it. The two neighbours may be beside each other in one list, and one of them may be the head of the list to
 -- which the joined block goes. Links are words of the arena; a neighbour of 0 grains is not there.
-use Prim.Native.Nat.{ℕ, zero, suc, _+_, _*_, _≤_, _<_}
+use Prim.Native.Nat.{ℕ, zero, suc, _+_, _*_, _<_}
 use native.Mathlib.Omega.{arith}
 use mathlib.Core.Path.{_≡_, refl, ap, sym, _∙_}
 use mathlib.Core.List.{List, [], _∷_, _++_}
@@ -13,7 +13,7 @@ use Rattle.sound.specs.Links.{node, unlinkWrites}
 use Rattle.slices.specs.Decode.{grains}
 use Rattle.header.specs.Turned.{grains-few}
 use Rattle.header.specs.Told.{link-leads, link-only}
-use Rattle.free_list.specs.Lent.{noLink, link, Leads, below-none, link-none, link-some, link-grain}
+use Rattle.free_list.specs.Lent.{noLink, link, Leads, below-none, link-none, link-grain}
 
 -- ---- the words
 

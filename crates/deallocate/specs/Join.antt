@@ -3,16 +3,16 @@ use Prim.Native.Nat.{ℕ, zero, suc, _+_, _-_, _*_, _≤_, _<_}
 use native.Mathlib.Omega.{arith}
 use mathlib.Core.Path.{_≡_, refl, ap, sym, _∙_}
 use mathlib.Core.Bool.{Bool, true, false}
-use mathlib.Core.List.{List, [], _∷_, _++_}
+use mathlib.Core.List.{List, _++_}
 use lib.ListN.{length}
 use Rattle.class.specs.Class.{listOf}
-use Rattle.script.specs.Memory.{Memory, Next, Prev, root, Write, latest}
-use Rattle.script.specs.Script.{Script, Result, ok, no, run, _>>=_, goes, halts, gives-done, gives-le, halts-le}
-use Rattle.sound.specs.Checks.{Entry, Owner, Beside, nobody, somebody, mustList, seeHead, seeBehind, seeBefore, seeOwner}
+use Rattle.script.specs.Memory.{Next, Prev, root, Write, latest}
+use Rattle.script.specs.Script.{done, ok, no, run, _>>=_, goes, halts, gives-done, gives-le, halts-le}
+use Rattle.sound.specs.Checks.{Entry, Owner, Beside, mustList, seeHead, seeBehind, seeBefore, seeOwner}
 use Rattle.sound.specs.Links.{unlinkWrites, pushWrites}
-use Rattle.sound.specs.Plans.{Plan, roomOf, leaves, afterwards, bothLeave, freeWrites, joinScript, giveBackScript}
+use Rattle.sound.specs.Plans.{roomOf, leaves, afterwards, bothLeave, freeWrites, joinScript, giveBackScript}
 use Rattle.slices.specs.Decode.{grains}
-use Rattle.free_list.specs.Lent.{link, Leads}
+use Rattle.free_list.specs.Lent.{link}
 use Rattle.free_list.specs.Back.{answer}
 use Rattle.free_list.specs.Seen.{shownHead}
 use Rattle.free_list.specs.declared.Head.{Head}
@@ -33,12 +33,12 @@ module _ (a l v t : List ℕ) (q z g k : ℕ) (w : List Write) (e : k ≡ listOf
 
   module _ (h : k < 192) (r : Head) (f : shownHead a r ≡ run (held a l v t) (seeHead (grains 8 a) k)) where
     join-listed : run (held a l v t) (joinScript (grains 8 a) 12 q z g w) ≡ run (held a l v t) (seeHead (grains 8 a) k >>= (λ h.
-        Script.done (record { answer = 0; moved = 0; writes = (w ++ pushWrites k z (latest w Next (root k) h)) ++ freeWrites q z g })))
+        done (record { answer = 0; moved = 0; writes = (w ++ pushWrites k z (latest w Next (root k) h)) ++ freeWrites q z g })))
     unfolding joinScript
     join-listed =
         let m = held a l v t in
         goes m (mustList 12 g) _ (gives-le m 5 (suc (listOf g)) 192 (omega arith))
-        ∙ ap (λ (i : ℕ). run m (seeHead (grains 8 a) i >>= (λ h. Script.done (record { answer = 0; moved = 0; writes = (w ++ pushWrites i z (latest w Next (root i) h)) ++ freeWrites q z g })))) (sym e)
+        ∙ ap (λ (i : ℕ). run m (seeHead (grains 8 a) i >>= (λ h. done (record { answer = 0; moved = 0; writes = (w ++ pushWrites i z (latest w Next (root i) h)) ++ freeWrites q z g })))) (sym e)
 
     -- what is beside its head doesn't agree
     pub join-headless : r .ok ≡ false → no 5 ≡ run (held a l v t) (joinScript (grains 8 a) 12 q z g w)

@@ -1,19 +1,18 @@
 -- A plan of the code, as the script answers it: the writes, spelled from the plan's numbers; and what makes them possible.
-use Prim.Native.Nat.{ℕ, zero, suc, _+_, _-_, _≤_, _<_}
+use Prim.Native.Nat.{ℕ, zero, suc, _+_, _-_, _<_}
 use native.Mathlib.Omega.{arith}
 use mathlib.Core.Path.{_≡_, refl, ap, _∙_}
 use mathlib.Core.List.{List, _++_}
-use lib.ListN.{length}
 use Rattle.bits.specs.Map.{lists}
 use Rattle.class.specs.Class.{listOf}
 use Rattle.script.specs.Memory.{Write}
-use Rattle.script.specs.Script.{Script, Result, ok, no, _>>=_}
+use Rattle.script.specs.Script.{Script, Result, no, run, _>>=_}
 use Rattle.sound.specs.Checks.{seeBehind, seeBefore}
 use Rattle.sound.specs.Links.{pushWrites}
-use Rattle.sound.specs.Plans.{Plan, roomOf, bothLeave, freeWrites, joinScript}
+use Rattle.sound.specs.Plans.{Plan, roomOf, bothLeave, freeWrites, joinScript, giveBackScript}
 use Rattle.slices.specs.Decode.{grains}
 use Rattle.free_list.specs.Lent.{link, Leads}
-use Rattle.neighbours.specs.Shown.{unless}
+use Rattle.neighbours.specs.Shown.{held, unless}
 use Rattle.deallocate.specs.declared.Neighbour.{Neighbour}
 use Rattle.deallocate.specs.declared.Plan.{Plan as PlanAnswer}
 use Rattle.deallocate.specs.After.{leaving}
@@ -75,6 +74,16 @@ mergeScript n q x s = do
   a ← seeBehind n 12 (x + s)
   b ← seeBefore n 12 x
   joinScript n 12 q (x - roomOf b) (roomOf b + (s + roomOf a)) (bothLeave a (x - roomOf b) b)
+
+-- a plan r of the code, for a script S that plans the return of a payload
+pub record Planned (a l : List ℕ) (S : ℕ → Script Plan) (r : PlanAnswer) : Type 0 where
+  pub answer : (q : ℕ) (v t : List ℕ) → shown a q r ≡ run (held a l v t) (S q)
+  pub able : r .refusal ≡ 0 → Able a r
+
+-- for the whole script, and the payload at q
+pub record BackPlanned (a l v : List ℕ) (q : ℕ) (r : PlanAnswer) : Type 0 where
+  pub answer : (t : List ℕ) → shown a q r ≡ run (held a l v t) (giveBackScript (grains 8 a) 12 q)
+  pub able : r .refusal ≡ 0 → Able a r
 
 -- the list of a neighbour, if there is one
 unfoldable pub listed : ℕ → ℕ

@@ -1,20 +1,20 @@
 -- What was seen of the block that is returned, and of its neighbours, lies in the arena, and their links lead: so the joined
 -- block can be counted and all that is planned can be written.
-use Prim.Native.Nat.{ℕ, zero, suc, _+_, _*_, _≤_, _<_}
+use Prim.Native.Nat.{ℕ, zero, suc, _+_, _≤_, _<_}
 use native.Mathlib.Omega.{arith}
 use mathlib.Core.Path.{_≡_, refl, ap, sym, _∙_, subst}
 use mathlib.Core.Bool.{Bool, true}
-use mathlib.Core.List.{List, []}
+use mathlib.Core.List.{List}
 use mathlib.Core.Logic.{inl, inr, ⊎-elim}
 use lib.ListN.{length}
 use Rattle.choice.specs.Choice.{ifEq, eq-case}
 use Rattle.class.specs.Class.{listOf}
-use Rattle.script.specs.Memory.{Memory, Size, Before}
-use Rattle.script.specs.Script.{run, Gives}
-use Rattle.sound.specs.Checks.{Word, isFree, isUsed, wordOf, Entry, Beside, nobody, somebody, seeBehind, seeBefore, seeOwner}
-use Rattle.sound.specs.Checked.{EntryChecked, BehindChecked, BeforeChecked, behind-checked, before-checked, owner-checked}
+use Rattle.script.specs.Memory.{Size, Before}
+use Rattle.script.specs.Script.{run}
+use Rattle.sound.specs.Checks.{Word, isFree, isUsed, wordOf, Entry, somebody, seeBehind, seeBefore, seeOwner}
+use Rattle.sound.specs.Checked.{EntryChecked, behind-checked, before-checked, owner-checked}
 use Rattle.slices.specs.Decode.{grains, Inside}
-use Rattle.slices.specs.Arena.{sizeAt, size-inside}
+use Rattle.slices.specs.Arena.{size-inside}
 use Rattle.slices.specs.Slices.{memory-size}
 use Rattle.free_list.specs.Lent.{lent, noLink, link, Leads}
 use Rattle.free_list.specs.Back.{answer}

@@ -3,7 +3,7 @@
 use Prim.Native.Nat.{ℕ, zero, suc, _+_, _*_, _<_}
 use native.Mathlib.Omega.{arith}
 use mathlib.Core.Path.{_≡_, refl, ap, sym, _∙_}
-use mathlib.Core.List.{List, [], _∷_, _++_}
+use mathlib.Core.List.{List, _++_}
 use lib.ListN.{length}
 use Rattle.choice.specs.Choice.{eq-yes}
 use Rattle.word.specs.Word.{putAt}
@@ -18,8 +18,9 @@ use Rattle.slices.specs.Kept.{stores-append}
 use Rattle.free_list.specs.Lent.{lent, link, link-keep, leads-keep, grain-stored}
 use Rattle.free_list.specs.Written.{Written, written-none, written-then, written-as, written-length}
 use Rattle.deallocate.specs.declared.Neighbour.{Neighbour}
+use Rattle.deallocate.specs.declared.Plan.{Plan as PlanAnswer}
 use Rattle.deallocate.specs.After.{leaving}
-use Rattle.deallocate.specs.Shown.{leavingOf, bothLeaving, Known}
+use Rattle.deallocate.specs.Shown.{leavingOf, bothLeaving, Known, Able}
 
 -- ---- a neighbour
 
@@ -47,6 +48,10 @@ leaving-keep a b (suc g) k x p e =
 
 pub known-keep : (a b : List ℕ) (f : Neighbour) → length b ≡ length a → Known a f → Known b f
 known-keep a b f e k n = record { list = k n .list; next = leads-keep a b (f .next) e (k n .next); prev = leads-keep a b (f .prev) e (k n .prev) }
+
+-- the joined block starts in the arena
+pub at-start : (a : List ℕ) (r : PlanAnswer) → Able a r → r .at < grains 8 a
+at-start a r h = omega (arith, h .inside)
 
 -- ---- both, and the joined block at the head of its list
 

@@ -1,19 +1,14 @@
 // The return of a block: its plan, which is read off the lent slices and checked before anything is written. A free
 // neighbour leaves its list, and the joined block goes to the head of the list of its size.
 ghost use mathlib.Core.Path.{_≡_};
-ghost use mathlib.Core.List.{List, _++_};
-ghost use Prim.Native.Nat.{ℕ, _+_, _*_, _≤_, _<_};
+ghost use Prim.Native.Nat.{_+_, _*_, _≤_, _<_};
 ghost use lib.ListN.{length};
-ghost use Rattle.script.specs.Script.{run};
-ghost use Rattle.sound.specs.Plans.{joinScript, giveBackScript};
+ghost use Rattle.sound.specs.Plans.{joinScript};
 ghost use Rattle.slices.specs.Decode.{grains};
-ghost use Rattle.neighbours.specs.Shown.{held, Long};
-ghost use Rattle.bits.specs.Map.{lists as listCount};
-ghost use Rattle.sound.specs.Links.{pushWrites};
-ghost use Rattle.free_list.specs.Lent.{link, Leads};
+ghost use Rattle.neighbours.specs.Shown.{Long};
 ghost use Rattle.free_list.specs.Written.{Written};
 ghost use Rattle.deallocate.specs.After.{relinked, headed};
-ghost use Rattle.deallocate.specs.Shown.{bothLeaving, shown, Known, Able, mergeScript, listed, leavingOf, backWrites};
+ghost use Rattle.deallocate.specs.Shown.{leavingOf, bothLeaving, backWrites, Known, Able, Planned, BackPlanned, mergeScript, listed};
 ghost use Rattle.deallocate.specs.Written.{freed, Returned};
 
 // The fields of a header that say how large a block is, and which block is before.
@@ -55,7 +50,7 @@ pub struct Plan {
 // The payload at q, counted in half grains, is returned.
 pub fn plan_back(a: &[u8], lists: &[u64], live: &[u64], q: usize) -> Plan
     requires { ⌜ (q < 64 * length (now live)) × (q < 2 * grains 8 (now a)) × Long (now lists) ⌝ }
-    ensures { λ r. ⌜ ((t : List ℕ) → shown (now (a .entry)) q r ≡ run (held (now (a .entry)) (now (lists .entry)) (now (live .entry)) t) (giveBackScript (grains 8 (now (a .entry))) 12 q)) × (r .refusal ≡ 0 → Able (now (a .entry)) r) ⌝ }
+    ensures { λ r. ⌜ BackPlanned (now (a .entry)) (now (lists .entry)) (now (live .entry)) q r ⌝ }
 {
     let o = neighbours::see_owner(a, live, q);
     if o.refusal != 0 {
@@ -67,7 +62,7 @@ pub fn plan_back(a: &[u8], lists: &[u64], live: &[u64], q: usize) -> Plan
 // The used block of s grains at x is joined with its free neighbours.
 fn plan_merge(a: &[u8], lists: &[u64], x: usize, s: usize) -> Plan
     requires { ⌜ (1 ≤ s) × (x + s < grains 8 (now a)) × Long (now lists) ⌝ }
-    ensures { λ r. ⌜ ((q : ℕ) (v t : List ℕ) → shown (now (a .entry)) q r ≡ run (held (now (a .entry)) (now (lists .entry)) v t) (mergeScript (grains 8 (now (a .entry))) q x s)) × (r .refusal ≡ 0 → Able (now (a .entry)) r) ⌝ }
+    ensures { λ r. ⌜ Planned (now (a .entry)) (now (lists .entry)) (λ q. mergeScript (grains 8 (now (a .entry))) q x s) r ⌝ }
 {
     let e = neighbours::see_behind(a, lists, x + s);
     if !e.ok {
@@ -103,7 +98,8 @@ fn plan_join(
     before: Neighbour,
 ) -> Plan
     requires { ⌜ (1 ≤ t) × (z + t < grains 8 (now a)) × Long (now lists) × Known (now a) behind × Known (now a) before ⌝ }
-    ensures { λ r. ⌜ ((q : ℕ) (v u : List ℕ) → shown (now (a .entry)) q r ≡ run (held (now (a .entry)) (now (lists .entry)) v u) (joinScript (grains 8 (now (a .entry))) 12 q z t (bothLeaving (now (a .entry)) behind before))) × (r .refusal ≡ 0 → Able (now (a .entry)) r) ⌝ }
+    ensures { λ r. ⌜ Planned (now (a .entry)) (now (lists .entry))
+        (λ q. joinScript (grains 8 (now (a .entry))) 12 q z t (bothLeaving (now (a .entry)) behind before)) r ⌝ }
 {
     let list = class::map_floor(t as u64) as usize;
     if LISTS <= list {
@@ -214,35 +210,21 @@ fn head_after(g: usize, k: usize, x: u64, p: u64, j: usize, h: u64) -> u64
 // What was planned for the payload at q.
 pub fn apply_back(a: &mut [u8], lists: &mut [u64], live: &mut [u64], q: usize, p: Plan)
     requires { ⌜ Able (now a) p × Long (now lists) × (q < 64 * length (now live)) ⌝ }
-    ensures { λ r. ⌜ Returned (now (a .entry)) (now (lists .entry)) (now (live .entry)) (backWrites (now (a .entry)) q p) (now (a .exit)) (now (lists .exit)) (now (live .exit)) ⌝ }
+    ensures { λ r. ⌜ Returned (now (a .entry)) (now (lists .entry)) (now (live .entry)) (backWrites (now (a .entry)) q p)
+        (now (a .exit)) (now (lists .exit)) (now (live .exit)) ⌝ }
 {
-    relist(a, lists, p.behind, p.before, p.list, p.at, p.head);
+    leave(a, lists, p.behind);
+    leave(a, lists, p.before);
+    free_list::push(a, lists, p.list, p.at, p.head);
     put_free(a, p.at, p.grains);
     bits::clear_table_bit(live, q);
-}
-
-// Both neighbours leave, and the block at z goes to the head of list k, before h.
-fn relist(
-    a: &mut [u8],
-    lists: &mut [u64],
-    behind: Neighbour,
-    before: Neighbour,
-    k: usize,
-    z: usize,
-    h: u64,
-)
-    requires { ⌜ Known (now a) behind × Known (now a) before × (k < listCount) × Long (now lists) × (z < grains 8 (now a)) × Leads (now a) h ⌝ }
-    ensures { λ r. ⌜ Written (now (a .entry)) (now (lists .entry)) (bothLeaving (now (a .entry)) behind before ++ pushWrites k z (link (now (a .entry)) h)) (now (a .exit)) (now (lists .exit)) ⌝ }
-{
-    leave(a, lists, behind);
-    leave(a, lists, before);
-    free_list::push(a, lists, k, z, h);
 }
 
 // A neighbour leaves its list, if there is one.
 fn leave(a: &mut [u8], lists: &mut [u64], e: Neighbour)
     requires { ⌜ Known (now a) e × Long (now lists) ⌝ }
-    ensures { λ r. ⌜ Written (now (a .entry)) (now (lists .entry)) (leavingOf (now (a .entry)) e) (now (a .exit)) (now (lists .exit)) ⌝ }
+    ensures { λ r. ⌜ Written (now (a .entry)) (now (lists .entry)) (leavingOf (now (a .entry)) e)
+        (now (a .exit)) (now (lists .exit)) ⌝ }
 {
     if e.grains == 0 {
         return;

@@ -17,11 +17,11 @@ refused-requires c κs = search needs
 returns : tie.Need-returns
 returns c =
     let o = c .before .before .before in
-    let s = o .before .before .before .before .args in (
-      λ t. shown-refused (s .a .now) (s .q) (o .see-owner .result .refusal) (c .refused .result) (c .refused .ensures) (c .before .if1 .taken)
-          ∙ back-refused (s .a .now) (s .lists .now) (s .live .now) t (s .q) (o .see-owner .result) (o .see-owner .ensures (s .lists .now) t) (c .before .if1 .taken),
-      λ e. absurd (c .before .if1 .taken (sym (c .refused .ensures) ∙ e)),
-    )
+    let s = o .before .before .before .before .args in record {
+      answer = λ t. shown-refused (s .a .now) (s .q) (o .see-owner .result .refusal) (c .refused .result) (c .refused .ensures) (c .before .if1 .taken)
+          ∙ back-refused (s .a .now) (s .lists .now) (s .live .now) t (s .q) (o .see-owner .result) (o .see-owner .ensures (s .lists .now) t) (c .before .if1 .taken);
+      able = λ e. absurd (c .before .if1 .taken (sym (c .refused .ensures) ∙ e));
+    }
 
 plan-merge-requires : tie.Need-plan-merge-requires
 plan-merge-requires c κs =
@@ -33,11 +33,11 @@ plan-merge-requires c κs =
 returns-2 : tie.Need-returns-2
 returns-2 c =
     let o = c .before .before .before in
-    let s = o .before .before .before .before .args in (
-      λ t. c .plan-merge .ensures .0 (s .q) (s .live .now) t
-          ∙ back-found (s .a .now) (s .lists .now) (s .live .now) t (s .q) (o .see-owner .result) (o .see-owner .ensures (s .lists .now) t) (c .before .if1 .left),
-      c .plan-merge .ensures .1,
-    )
+    let s = o .before .before .before .before .args in record {
+      answer = λ t. c .plan-merge .ensures .answer (s .q) (s .live .now) t
+          ∙ back-found (s .a .now) (s .lists .now) (s .live .now) t (s .q) (o .see-owner .result) (o .see-owner .ensures (s .lists .now) t) (c .before .if1 .left);
+      able = c .plan-merge .ensures .able;
+    }
 
 pub plan-back-spec : {M : Type 1} → statement M
 plan-back-spec = tie.close (tie.spec see-owner-requires refused-requires returns plan-merge-requires returns-2)

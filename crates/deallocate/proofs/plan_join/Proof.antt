@@ -1,7 +1,7 @@
 -- `deallocate::plan_join`: the list of the joined block is known, or there is none; its head is the one that stands there
 -- when both neighbours left.
 use native.Mathlib.Omega.{arith}
-use mathlib.Core.Path.{_≡_, sym, _∙_, subst}
+use mathlib.Core.Path.{sym, _∙_, subst}
 use borrow.Author.Tests.{not-true, not-false}
 use Rattle.header.specs.Turned.{grains-few}
 use Rattle.free_list.specs.Lent.{Leads}
@@ -37,11 +37,11 @@ refused-requires c κs = search needs
 returns : tie.Need-returns
 returns c =
     let k = c .before .before in
-    let s = k .before .before .before .args in (
-      λ q v u. shown-damaged (s .a .now) q (c .refused .result) (c .refused .ensures)
-          ∙ join-unlisted (s .a .now) (s .lists .now) v u q (s .z) (s .t) (k .map-floor .result) (bothLeaving (s .a .now) (s .behind) (s .before)) (k .map-floor .ensures) (c .before .if1 .taken),
-      damaged-unable (s .a .now) (c .refused .result) (c .refused .ensures),
-    )
+    let s = k .before .before .before .args in record {
+      answer = λ q v u. shown-damaged (s .a .now) q (c .refused .result) (c .refused .ensures)
+          ∙ join-unlisted (s .a .now) (s .lists .now) v u q (s .z) (s .t) (k .map-floor .result) (bothLeaving (s .a .now) (s .behind) (s .before)) (k .map-floor .ensures) (c .before .if1 .taken);
+      able = damaged-unable (s .a .now) (c .refused .result) (c .refused .ensures);
+    }
 
 see-head-requires : tie.Need-see-head-requires
 see-head-requires c κs = search needs
@@ -53,12 +53,12 @@ returns-2 : tie.Need-returns-2
 returns-2 c =
     let d = c .before .before .before in
     let k = d .before .before in
-    let s = k .before .before .before .args in (
-      λ q v u. shown-damaged (s .a .now) q (c .refused2 .result) (c .refused2 .ensures)
+    let s = k .before .before .before .args in record {
+      answer = λ q v u. shown-damaged (s .a .now) q (c .refused2 .result) (c .refused2 .ensures)
           ∙ join-headless (s .a .now) (s .lists .now) v u q (s .z) (s .t) (k .map-floor .result) (bothLeaving (s .a .now) (s .behind) (s .before)) (k .map-floor .ensures) (d .before .if1 .left)
-          (d .see-head .result) (d .see-head .ensures v u) (not-true _ (c .before .if2 .taken)),
-      damaged-unable (s .a .now) (c .refused2 .result) (c .refused2 .ensures),
-    )
+          (d .see-head .result) (d .see-head .ensures v u) (not-true _ (c .before .if2 .taken));
+      able = damaged-unable (s .a .now) (c .refused2 .result) (c .refused2 .ensures);
+    }
 
 head-after-requires : tie.Need-head-after-requires
 head-after-requires c κs = search needs
@@ -71,13 +71,13 @@ returns-3 c =
     let d = c .before .before .before .before in
     let k = d .before .before in
     let i = k .before .before .before in
-    let s = i .args in (
-      λ q v u. joined (s .a .now) (s .lists .now) v u q (s .z) (s .t) (k .map-floor .result) (bothLeaving (s .a .now) (s .behind) (s .before)) (k .map-floor .ensures) (d .before .if1 .left)
+    let s = i .args in record {
+      answer = λ q v u. joined (s .a .now) (s .lists .now) v u q (s .z) (s .t) (k .map-floor .result) (bothLeaving (s .a .now) (s .behind) (s .before)) (k .map-floor .ensures) (d .before .if1 .left)
           (d .see-head .result) (d .see-head .ensures v u) (not-false _ (c .before .before .if2 .left)) (c .head-after2 .result)
           (head-joined (s .a .now) (s .behind) (s .before) (k .map-floor .result) (d .see-head .result .word) (c .before .head-after .result) (c .head-after2 .result)
-          (i .good .0 .0) (i .pre .3) (i .pre .4) (c .before .head-after .ensures) (c .head-after2 .ensures)),
-      λ _. record { behind = i .pre .3; before = i .pre .4; inside = i .pre .1; list = d .before .if1 .left; head = head c },
-    )
+          (i .good .0 .0) (i .pre .3) (i .pre .4) (c .before .head-after .ensures) (c .head-after2 .ensures));
+      able = λ _. record { behind = i .pre .3; before = i .pre .4; inside = i .pre .1; list = d .before .if1 .left; head = head c };
+    }
 
 pub plan-join-spec : {M : Type 1} → statement M
 plan-join-spec =

@@ -2,7 +2,7 @@
 -- it will be when the first one left.
 use Prim.Native.Nat.{_+_, _≤_, _<_}
 use native.Mathlib.Omega.{arith}
-use mathlib.Core.Path.{_≡_, sym, _∙_}
+use mathlib.Core.Path.{_≡_, _∙_}
 use mathlib.Core.List.{[]}
 use borrow.Author.Tests.{not-true, not-false}
 use Rattle.slices.specs.Decode.{grains}
@@ -45,11 +45,11 @@ refused-requires c κs = search needs
 returns : tie.Need-returns
 returns c =
     let e = c .before .before .before in
-    let s = e .before .before .before .args in (
-      λ q v t. shown-damaged (s .a .now) q (c .refused .result) (c .refused .ensures)
-          ∙ merge-behind-out (s .a .now) (s .lists .now) v t q (s .x) (s .s) (e .see-behind .result) (e .see-behind .ensures v t) (not-true _ (c .before .if1 .taken)),
-      damaged-unable (s .a .now) (c .refused .result) (c .refused .ensures),
-    )
+    let s = e .before .before .before .args in record {
+      answer = λ q v t. shown-damaged (s .a .now) q (c .refused .result) (c .refused .ensures)
+          ∙ merge-behind-out (s .a .now) (s .lists .now) v t q (s .x) (s .s) (e .see-behind .result) (e .see-behind .ensures v t) (not-true _ (c .before .if1 .taken));
+      able = damaged-unable (s .a .now) (c .refused .result) (c .refused .ensures);
+    }
 
 see-before-requires : tie.Need-see-before-requires
 see-before-requires c κs = search needs
@@ -61,12 +61,12 @@ returns-2 : tie.Need-returns-2
 returns-2 c =
     let f = c .before .before .before in
     let e = f .before .before .before in
-    let s = e .before .before .before .args in (
-      λ q v t. shown-damaged (s .a .now) q (c .refused2 .result) (c .refused2 .ensures)
+    let s = e .before .before .before .args in record {
+      answer = λ q v t. shown-damaged (s .a .now) q (c .refused2 .result) (c .refused2 .ensures)
           ∙ merge-before-out (s .a .now) (s .lists .now) v t q (s .x) (s .s) (e .see-behind .result) (e .see-behind .ensures v t) (not-false _ (f .before .if1 .left))
-          (f .see-before .result) (f .see-before .ensures v t) (not-true _ (c .before .if2 .taken)),
-      damaged-unable (s .a .now) (c .refused2 .result) (c .refused2 .ensures),
-    )
+          (f .see-before .result) (f .see-before .ensures v t) (not-true _ (c .before .if2 .taken));
+      able = damaged-unable (s .a .now) (c .refused2 .result) (c .refused2 .ensures);
+    }
 
 sub-z : tie.Need-sub-z
 sub-z c = before (c .before) .0
@@ -128,14 +128,14 @@ returns-3 c =
     let e = f .before .before .before in
     let i = e .before .before .before in
     let s = i .args in
-    let b = behind (f .before) in (
-      λ q v t. c .plan-join .ensures .0 q v t
+    let b = behind (f .before) in record {
+      answer = λ q v t. c .plan-join .ensures .answer q v t
           ∙ merged (s .a .now) (s .lists .now) v t q (s .x) (s .s) (e .see-behind .result) (e .see-behind .ensures v t) (not-false _ (f .before .if1 .left))
           (f .see-before .result) (f .see-before .ensures v t) (not-false _ (d .if2 .left)) (i .good .0 .0) (omega (arith, b .0))
           (k .before .list-of .result) (k .list-of2 .result) (o .before .after .result) (o .after2 .result) (k .before .list-of .ensures) (k .list-of2 .ensures)
-          (o .before .after .ensures) (o .after2 .ensures),
-      c .plan-join .ensures .1,
-    )
+          (o .before .after .ensures) (o .after2 .ensures);
+      able = c .plan-join .ensures .able;
+    }
 
 pub plan-merge-spec : {M : Type 1} → statement M
 plan-merge-spec =
