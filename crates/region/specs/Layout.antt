@@ -1,6 +1,6 @@
 -- The script that lays out a region, one piece at a time: it ends where less than two grains are left, and else goes on behind
 -- the piece or refuses, as the check of the piece's list does on the memory that the pieces before it leave.
-use Prim.Native.Nat.{ℕ, zero, suc, _+_, _-_, _^_, _≤_, _<_, min}
+use Prim.Native.Nat.{ℕ, zero, suc, _+_, _-_, _^_, _≤_, min}
 use native.Mathlib.Omega.{arith}
 use mathlib.Core.Path.{_≡_, ap, _∙_}
 use mathlib.Core.List.{List, _++_}
