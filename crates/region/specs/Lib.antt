@@ -3,6 +3,7 @@
 pub mod Look
 pub mod Admit
 pub mod Layout
+pub mod Pushed
 pub mod Piece
 pub mod Pieces
 pub mod Entered
