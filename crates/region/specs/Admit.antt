@@ -13,8 +13,9 @@ use Rattle.script.specs.Memory.{Memory, Table, _at_≔_}
 use Rattle.script.specs.Script.{Script, no, run, done, stop, _>>=_, _>>_, unlessLe, mustEq, mustLe, Gives, goes, halts, reads, gives-done, gives-eq, gives-le, halts-eq, halts-le, runs-stop}
 use Rattle.sound.specs.Plans.{Plan}
 use Rattle.sound.specs.RegionPlan.{Looked, seeRegions, Layout, layScript, regionScript}
+use Rattle.sound.specs.RegionSound.{nothing-seen}
 use Rattle.region.specs.declared.Findings.{Findings}
-use Rattle.region.specs.Look.{Holds, unseen, told, LookedThrough}
+use Rattle.region.specs.Look.{Holds, told, LookedThrough}
 
 -- how many regions the table t can hold
 abbrev pub mostOf : List ℕ → ℕ
@@ -37,7 +38,7 @@ laying n c g len r = layScript n c len [] g len >>= given g len r
 -- from the look at the r regions on
 abbrev pub beside : ℕ → ℕ → ℕ → ℕ → ℕ → ℕ → Script Plan
 beside behind n c g len r = do
-  l ← seeRegions n g len r 0 unseen
+  l ← seeRegions n g len r 0 nothing-seen
   unlessLe 4 behind (l .meets)
   mustEq (l .wrong) 0
   laying n c g len r
@@ -146,29 +147,29 @@ module _ (t : List ℕ) (behind n g len count : ℕ) (found : Findings) (countIs
 
   module _ (m : Memory) (h : Holds m t) where
     -- as the script says it
-    overlapped : found .clear ≡ false → run m (seeRegions n g len count 0 unseen) ≡ no 4
+    overlapped : found .clear ≡ false → run m (seeRegions n g len count 0 nothing-seen) ≡ no 4
     overlapped e = sym (seen m h) ∙ ap (λ (b : Bool). told b said) e
 
-    cleared : found .clear ≡ true → Gives m (seeRegions n g len count 0 unseen) said
+    cleared : found .clear ≡ true → Gives m (seeRegions n g len count 0 nothing-seen) said
     cleared e = sym (seen m h) ∙ ap (λ (b : Bool). told b said) e
 
   -- a region overlaps
   pub beside-overlap : found .clear ≡ false → AnsweredBeside t behind n g len 4
-  beside-overlap e m h c = rw (← countIs) (halts m (seeRegions n g len count 0 unseen) _ (overlapped m h e))
+  beside-overlap e m h c = rw (← countIs) (halts m (seeRegions n g len count 0 nothing-seen) _ (overlapped m h e))
 
   -- none ends where it must
   pub beside-apart : found .clear ≡ true → found .meets < behind → AnsweredBeside t behind n g len 4
   beside-apart e a m h c = rw (← countIs)
-      (goes m (seeRegions n g len count 0 unseen) _ (cleared m h e) ∙ halts m (unlessLe 4 behind (found .meets)) _ (halts-le m 4 behind (found .meets) a))
+      (goes m (seeRegions n g len count 0 nothing-seen) _ (cleared m h e) ∙ halts m (unlessLe 4 behind (found .meets)) _ (halts-le m 4 behind (found .meets) a))
 
   -- an entry can't be right
   pub beside-wrong : found .clear ≡ true → behind ≤ found .meets → (found .wrong ≡ 0 → ⊥) → AnsweredBeside t behind n g len 5
   beside-wrong e a b m h c = rw (← countIs)
-      (goes m (seeRegions n g len count 0 unseen) _ (cleared m h e) ∙ goes m (unlessLe 4 behind (found .meets)) _ (gives-le m 4 behind (found .meets) a)
+      (goes m (seeRegions n g len count 0 nothing-seen) _ (cleared m h e) ∙ goes m (unlessLe 4 behind (found .meets)) _ (gives-le m 4 behind (found .meets) a)
       ∙ halts m (mustEq (found .wrong) 0) _ (halts-eq m 5 (found .wrong) 0 b))
 
   -- nothing is in the way
   pub beside-clear : found .clear ≡ true → behind ≤ found .meets → found .wrong ≡ 0 → AnsweredBeside t behind n g len 0
   beside-clear e a b m h c = rw (← countIs)
-      (goes m (seeRegions n g len count 0 unseen) _ (cleared m h e) ∙ goes m (unlessLe 4 behind (found .meets)) _ (gives-le m 4 behind (found .meets) a)
+      (goes m (seeRegions n g len count 0 nothing-seen) _ (cleared m h e) ∙ goes m (unlessLe 4 behind (found .meets)) _ (gives-le m 4 behind (found .meets) a)
       ∙ goes m (mustEq (found .wrong) 0) _ (gives-eq m 5 (found .wrong) 0 b))

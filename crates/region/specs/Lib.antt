@@ -1,7 +1,9 @@
--- What the table of the regions says of a new one (Look), whether the new one can be given (Admit), one piece of it laid
--- out (Piece), pieces in a row (Pieces), and the new one entered in the table (Entered).
+-- What the table of the regions says of a new one (Look), and whether the new one can be given (Admit); the script that lays
+-- it out, step by step (Layout), one piece laid out (Piece), and pieces in a row (Pieces); the new one in the table (Entered).
 pub mod Look
 pub mod Admit
+pub mod Layout
+pub mod Pushed
 pub mod Piece
 pub mod Pieces
 pub mod Entered

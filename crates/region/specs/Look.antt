@@ -11,6 +11,7 @@ use Rattle.table.specs.Table.{entry}
 use Rattle.script.specs.Memory.{Memory, Table}
 use Rattle.script.specs.Script.{Result, ok, no, run, done, unlessLe, Gives, goes, halts, reads, gives-done, gives-le, halts-le}
 use Rattle.sound.specs.RegionPlan.{Looked, wrongOf, seeRegions}
+use Rattle.sound.specs.RegionSound.{nothing-seen}
 use Rattle.region.specs.declared.Findings.{Findings}
 
 -- the region from s to e overlaps len grains from g on
@@ -26,18 +27,14 @@ abbrev pub told : Bool → Looked → Result Looked
 told true l = ok l
 told false l = no 4
 
--- before the first entry
-abbrev pub unseen : Looked
-unseen = record { meets = 0; wrong = 0 }
-
 -- the answer on the first k entries is that of the script
 abbrev pub LookedThrough : List ℕ → ℕ → ℕ → ℕ → ℕ → Findings → Type 0
 LookedThrough t n g len k r =
-    (m : Memory) → Holds m t → told (r .clear) (record { meets = r .meets; wrong = r .wrong }) ≡ run m (seeRegions n g len k 0 unseen)
+    (m : Memory) → Holds m t → told (r .clear) (record { meets = r .meets; wrong = r .wrong }) ≡ run m (seeRegions n g len k 0 nothing-seen)
 
 -- i of k entries were passed, and told l
 abbrev pub Passed : List ℕ → ℕ → ℕ → ℕ → ℕ → ℕ → Looked → Type 0
-Passed t n g len k i l = (m : Memory) → Holds m t → run m (seeRegions n g len k 0 unseen) ≡ run m (seeRegions n g len (k - i) i l)
+Passed t n g len k i l = (m : Memory) → Holds m t → run m (seeRegions n g len k 0 nothing-seen) ≡ run m (seeRegions n g len (k - i) i l)
 
 -- ---- one entry
 
@@ -69,11 +66,11 @@ module _ (m : Memory) (n g len r i s e : ℕ) (l : Looked) (first : m Table (2 *
 
 module _ (t : List ℕ) (n g len k : ℕ) where
   -- before the first entry
-  pub passed-none : Passed t n g len k 0 unseen
-  passed-none m h = ap (λ (j : ℕ). run m (seeRegions n g len j 0 unseen)) (omega arith)
+  pub passed-none : Passed t n g len k 0 nothing-seen
+  passed-none m h = ap (λ (j : ℕ). run m (seeRegions n g len j 0 nothing-seen)) (omega arith)
 
   -- behind the last
-  pub passed-all : (i : ℕ) (l : Looked) → i ≡ k → Passed t n g len k i l → (m : Memory) → Holds m t → ok l ≡ run m (seeRegions n g len k 0 unseen)
+  pub passed-all : (i : ℕ) (l : Looked) → i ≡ k → Passed t n g len k i l → (m : Memory) → Holds m t → ok l ≡ run m (seeRegions n g len k 0 nothing-seen)
   unfolding seeRegions
   passed-all i l e p m h =
       let z : k - i ≡ 0 = omega arith in
@@ -81,11 +78,11 @@ module _ (t : List ℕ) (n g len k : ℕ) where
 
   module _ (i s e : ℕ) (l : Looked) (inside : i < k) (first : s ≡ entry t (2 * i + 1)) (end : e ≡ entry t (2 * i + 2)) (p : Passed t n g len k i l) where
     -- this entry, as one of those that are left
-    left-over : (m : Memory) → Holds m t → run m (seeRegions n g len k 0 unseen) ≡ run m (seeRegions n g len (suc (k - (i + 1))) i l)
+    left-over : (m : Memory) → Holds m t → run m (seeRegions n g len k 0 nothing-seen) ≡ run m (seeRegions n g len (suc (k - (i + 1))) i l)
     left-over m h = p m h ∙ ap (λ (j : ℕ). run m (seeRegions n g len j i l)) (omega arith)
 
     -- it overlaps
-    pub passed-stop : Overlap s e g len → (m : Memory) → Holds m t → no 4 ≡ run m (seeRegions n g len k 0 unseen)
+    pub passed-stop : Overlap s e g len → (m : Memory) → Holds m t → no 4 ≡ run m (seeRegions n g len k 0 nothing-seen)
     passed-stop o m h = sym (left-over m h ∙ entry-stop m n g len (k - (i + 1)) i s e l (h (2 * i + 1) ∙ sym first) (h (2 * i + 2) ∙ sym end) o)
 
     -- it doesn't

@@ -12,9 +12,9 @@ use Rattle.bits.specs.Map.{lists as listCount}
 use Rattle.script.specs.Memory.{Write}
 use Rattle.sound.specs.RegionPlan.{pieceWrites}
 use Rattle.slices.specs.Decode.{grains, grains-keep}
-use Rattle.header.specs.Turned.{turned, grains-few, turned-is}
+use Rattle.header.specs.Turned.{grains-few, turned-is}
 use Rattle.header.specs.Told.{link-leads}
-use Rattle.free_list.specs.Lent.{Leads, link, leads-keep}
+use Rattle.free_list.specs.Lent.{Leads, link}
 use Rattle.free_list.specs.Written.{Written, written-none, written-then}
 use Rattle.region.specs.Piece.{Placeable}
 
