@@ -12,7 +12,7 @@ use Rattle.sound.specs.Links.{pushWrites}
 use Rattle.sound.specs.Plans.{Plan, roomOf, bothLeave, freeWrites, joinScript, giveBackScript}
 use Rattle.slices.specs.Decode.{grains}
 use Rattle.free_list.specs.Lent.{link, Leads}
-use Rattle.neighbours.specs.Shown.{held, unless}
+use Rattle.neighbours.specs.Shown.{classes, held, unless}
 use Rattle.deallocate.specs.declared.Neighbour.{Neighbour}
 use Rattle.deallocate.specs.declared.Plan.{Plan as PlanAnswer}
 use Rattle.deallocate.specs.After.{leaving}
@@ -71,9 +71,9 @@ damaged-unable a r e f = absurd (omega arith)
 
 abbrev pub mergeScript : ℕ → ℕ → ℕ → ℕ → Script Plan
 mergeScript n q x s = do
-  a ← seeBehind n 12 (x + s)
-  b ← seeBefore n 12 x
-  joinScript n 12 q (x - roomOf b) (roomOf b + (s + roomOf a)) (bothLeave a (x - roomOf b) b)
+  a ← seeBehind n classes (x + s)
+  b ← seeBefore n classes x
+  joinScript n classes q (x - roomOf b) (roomOf b + (s + roomOf a)) (bothLeave a (x - roomOf b) b)
 
 -- a plan r of the code, for a script S that plans the return of a payload
 pub record Planned (a l : List ℕ) (S : ℕ → Script Plan) (r : PlanAnswer) : Type 0 where
@@ -82,7 +82,7 @@ pub record Planned (a l : List ℕ) (S : ℕ → Script Plan) (r : PlanAnswer) :
 
 -- for the whole script, and the payload at q
 pub record BackPlanned (a l v : List ℕ) (q : ℕ) (r : PlanAnswer) : Type 0 where
-  pub answer : (t : List ℕ) → shown a q r ≡ run (held a l v t) (giveBackScript (grains 8 a) 12 q)
+  pub answer : (t : List ℕ) → shown a q r ≡ run (held a l v t) (giveBackScript (grains 8 a) classes q)
   pub able : r .refusal ≡ 0 → Able a r
 
 -- the list of a neighbour, if there is one

@@ -8,6 +8,7 @@ use mathlib.Core.List.{List}
 use mathlib.Core.Logic.{inl, inr, ⊎-elim}
 use lib.ListN.{length}
 use Rattle.choice.specs.Choice.{ifEq, eq-case}
+use Rattle.bits.specs.Map.{lists}
 use Rattle.class.specs.Class.{listOf}
 use Rattle.script.specs.Memory.{Size, Before}
 use Rattle.script.specs.Script.{run}
@@ -19,7 +20,7 @@ use Rattle.slices.specs.Slices.{memory-size}
 use Rattle.free_list.specs.Lent.{lent, noLink, link, Leads}
 use Rattle.free_list.specs.Back.{answer}
 use Rattle.free_list.specs.Leading.{leads-valid}
-use Rattle.neighbours.specs.Shown.{held, unless, shownOwner, someone, shownBeside}
+use Rattle.neighbours.specs.Shown.{classes, held, unless, shownOwner, someone, shownBeside}
 use Rattle.neighbours.specs.declared.Owner.{Owner as OwnerAnswer}
 use Rattle.neighbours.specs.declared.Beside.{Beside as BesideAnswer}
 use Rattle.deallocate.specs.After.{relinked, headed}
@@ -42,12 +43,12 @@ module _ (a l v t : List ℕ) where
 
 -- what was seen of one of g grains: its list is there, and its links lead
 pub record Sighted (a : List ℕ) (r : BesideAnswer) : Type 0 where
-  pub list : listOf (r .grains) < 192
+  pub list : listOf (r .grains) < lists
   pub next : Leads a (r .next)
   pub prev : Leads a (r .prev)
 
 module _ (a l v t : List ℕ) (s : length a < 18446744073709551616) where
-  sighted : (y g x p : ℕ) → listOf g < 192 → EntryChecked (grains 8 a) (held a l v t) (listOf g) y (record { next = link a x; prev = link a p })
+  sighted : (y g x p : ℕ) → listOf g < lists → EntryChecked (grains 8 a) (held a l v t) (listOf g) y (record { next = link a x; prev = link a p })
       → (b : Bool) → Sighted a (record { ok = b; grains = g; next = x; prev = p })
   sighted y g x p k c b = record {
     list = k;
@@ -56,30 +57,30 @@ module _ (a l v t : List ℕ) (s : length a < 18446744073709551616) where
   }
 
   -- behind it
-  pub behind-within : (y : ℕ) (r : BesideAnswer) → y < grains 8 a → shownBeside a r ≡ run (held a l v t) (seeBehind (grains 8 a) 12 y) → r .ok ≡ true
+  pub behind-within : (y : ℕ) (r : BesideAnswer) → y < grains 8 a → shownBeside a r ≡ run (held a l v t) (seeBehind (grains 8 a) classes y) → r .ok ≡ true
       → (y + r .grains < grains 8 a) × ((r .grains ≡ 0 → ⊥) → Sighted a r)
   behind-within y r i h o = go (r .ok) (r .grains) (r .next) (r .prev) h o
     where
-      go : (b : Bool) (g x p : ℕ) → answer b (someone g (record { next = link a x; prev = link a p })) ≡ run (held a l v t) (seeBehind (grains 8 a) 12 y) → b ≡ true
+      go : (b : Bool) (g x p : ℕ) → answer b (someone g (record { next = link a x; prev = link a p })) ≡ run (held a l v t) (seeBehind (grains 8 a) classes y) → b ≡ true
           → (y + g < grains 8 a) × ((g ≡ 0 → ⊥) → Sighted a (record { ok = b; grains = g; next = x; prev = p }))
       go b zero x p h o = (omega arith, λ n. absurd (n refl))
       go b (suc g) x p h o =
           let e : Entry = record { next = link a x; prev = link a p } in
-          let c = behind-checked (grains 8 a) 12 (held a l v t) y (somebody (suc g) e) (sym h ∙ ap (λ (d : Bool). answer d (somebody (suc g) e)) o) in
+          let c = behind-checked (grains 8 a) classes (held a l v t) y (somebody (suc g) e) (sym h ∙ ap (λ (d : Bool). answer d (somebody (suc g) e)) o) in
           let j = size-within a l v t y (isFree (suc g)) (c .word) in
           (omega (arith, j .1), λ _. sighted y (suc g) x p (c .list) (c .entry) b)
 
   -- before it
-  pub before-within : (x : ℕ) (r : BesideAnswer) → shownBeside a r ≡ run (held a l v t) (seeBefore (grains 8 a) 12 x) → r .ok ≡ true
+  pub before-within : (x : ℕ) (r : BesideAnswer) → shownBeside a r ≡ run (held a l v t) (seeBefore (grains 8 a) classes x) → r .ok ≡ true
       → (r .grains ≤ x) × ((r .grains ≡ 0 → ⊥) → Sighted a r)
   before-within x r h o = go (r .ok) (r .grains) (r .next) (r .prev) h o
     where
-      go : (b : Bool) (g y p : ℕ) → answer b (someone g (record { next = link a y; prev = link a p })) ≡ run (held a l v t) (seeBefore (grains 8 a) 12 x) → b ≡ true
+      go : (b : Bool) (g y p : ℕ) → answer b (someone g (record { next = link a y; prev = link a p })) ≡ run (held a l v t) (seeBefore (grains 8 a) classes x) → b ≡ true
           → (g ≤ x) × ((g ≡ 0 → ⊥) → Sighted a (record { ok = b; grains = g; next = y; prev = p }))
       go b zero y p h o = (omega arith, λ n. absurd (n refl))
       go b (suc g) y p h o =
           let e : Entry = record { next = link a y; prev = link a p } in
-          let c = before-checked (grains 8 a) 12 (held a l v t) x (somebody (suc g) e) (sym h ∙ ap (λ (d : Bool). answer d (somebody (suc g) e)) o) in
+          let c = before-checked (grains 8 a) classes (held a l v t) x (somebody (suc g) e) (sym h ∙ ap (λ (d : Bool). answer d (somebody (suc g) e)) o) in
           (omega (arith, c .meets), λ _. sighted (held a l v t Before x) (suc g) y p (c .list) (c .entry) b)
 
 -- ---- links that were chosen

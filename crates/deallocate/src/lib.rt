@@ -5,7 +5,7 @@ ghost use Prim.Native.Nat.{_+_, _*_, _≤_, _<_};
 ghost use lib.ListN.{length};
 ghost use Rattle.sound.specs.Plans.{joinScript};
 ghost use Rattle.slices.specs.Decode.{grains};
-ghost use Rattle.neighbours.specs.Shown.{Long};
+ghost use Rattle.neighbours.specs.Shown.{classes, Long};
 ghost use Rattle.free_list.specs.Written.{Written};
 ghost use Rattle.deallocate.specs.After.{relinked, headed};
 ghost use Rattle.deallocate.specs.Shown.{leavingOf, bothLeaving, backWrites, Known, Able, Planned, BackPlanned, mergeScript, listed};
@@ -99,7 +99,7 @@ fn plan_join(
 ) -> Plan
     requires { ⌜ (1 ≤ t) × (z + t < grains 8 (now a)) × Long (now lists) × Known (now a) behind × Known (now a) before ⌝ }
     ensures { λ r. ⌜ Planned (now (a .entry)) (now (lists .entry))
-        (λ q. joinScript (grains 8 (now (a .entry))) 12 q z t (bothLeaving (now (a .entry)) behind before)) r ⌝ }
+        (λ q. joinScript (grains 8 (now (a .entry))) classes q z t (bothLeaving (now (a .entry)) behind before)) r ⌝ }
 {
     let list = class::map_floor(t as u64) as usize;
     if LISTS <= list {
@@ -136,6 +136,7 @@ fn plan_join(
     }
 }
 
+// A refusal, with nothing planned.
 fn refused(why: u64) -> Plan
     ensures { λ r. ⌜ r .refusal ≡ why ⌝ }
 {
@@ -150,6 +151,7 @@ fn refused(why: u64) -> Plan
     }
 }
 
+// No neighbour.
 fn nobody() -> Neighbour
     ensures { λ r. ⌜ r .grains ≡ 0 ⌝ }
 {
