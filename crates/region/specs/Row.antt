@@ -2,14 +2,14 @@
 -- refused, and the writes so far are those that `lay_full` stores.
 use Prim.Native.Nat.{ℕ, zero, suc, _+_, _-_, _*_, _^_, _≤_, _<_, min}
 use native.Mathlib.Omega.{arith}
-use mathlib.Core.Path.{_≡_, refl, ap, sym, _∙_, subst}
-use mathlib.Core.List.{List, [], _++_}
+use mathlib.Core.Path.{_≡_, sym, _∙_, subst}
+use mathlib.Core.List.{[], _++_}
 use mathlib.Core.Logic.{⊎-elim}
 use Rattle.class.specs.Class.{listOf}
-use Rattle.script.specs.Memory.{Memory, Mark, Prev, none, Write, apply, apply-append}
+use Rattle.script.specs.Memory.{Memory, Mark, Prev, none, apply, apply-append}
 use Rattle.script.specs.Script.{run, Gives}
 use Rattle.sound.specs.Checks.{seeHead}
-use Rattle.sound.specs.Checked.{HeadChecked, head-checked}
+use Rattle.sound.specs.Checked.{head-checked}
 use Rattle.sound.specs.RegionPlan.{pieceWrites, layScript}
 use Rattle.region.specs.Layout.{lay-more}
 use Rattle.region.specs.Pushed.{head-pushed}
