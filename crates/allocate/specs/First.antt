@@ -2,19 +2,19 @@
 -- list, a block in use behind it in the arena, and all links lead back. Each law is one return of the code.
 use Prim.Native.Nat.{ℕ, suc, _+_, _*_, _≤_, _<_}
 use native.Mathlib.Omega.{arith}
-use mathlib.Core.Path.{_≡_, refl, ap, sym, _∙_, subst}
+use mathlib.Core.Path.{_≡_, refl, ap, sym, _∙_}
 use mathlib.Core.Bool.{Bool, true, false}
 use mathlib.Core.List.{List}
 use mathlib.Core.Logic.{⊎-elim}
 use lib.ListN.{length}
-use Rattle.choice.specs.Choice.{ifEq, eq-yes, eq-no, le?, same?}
+use Rattle.choice.specs.Choice.{same?}
 use Rattle.choice.specs.Says.{Says}
 use Rattle.word.specs.Word.{wordAt}
 use Rattle.table.specs.Table.{entry}
 use Rattle.bits.specs.Map.{mapWords, lists}
 use Rattle.class.specs.Class.{listOf}
 use Rattle.script.specs.Memory.{Memory, Size, Before, Next, Prev, none, root}
-use Rattle.script.specs.Script.{Script, Result, ok, no, run, done, stop, _>>=_, _>>_, get, mustEq, goes, halts, reads, runs-stop, gives-eq, gives-le, halts-eq, halts-le}
+use Rattle.script.specs.Script.{Script, Result, ok, no, run, _>>=_, _>>_, get, mustEq, goes, halts, reads, runs-stop, gives-eq, gives-le, halts-eq, halts-le}
 use Rattle.sound.specs.Checks.{Word, isFree, isUsed, isLast, isBad, wordOf, asFree, asBusy, mustGrain, mustLead, mustBack, mustBusy, mustFree}
 use Rattle.sound.specs.Plans.{Plan}
 use Rattle.slices.specs.Decode.{grains, wrongLink, Inside}

@@ -1,20 +1,18 @@
 -- What a plan of a take says: the writes, spelled from its numbers, or a refusal; and that this is what the script of a
 -- take answers. Each law is one return of the code.
-use Prim.Native.Nat.{ℕ, zero, suc, _+_, _-_, _*_, _/_, _%_, _^_, _≤_, _<_}
+use Prim.Native.Nat.{ℕ, zero, suc, _+_, _-_, _*_, _^_, _≤_, _<_}
 use native.Mathlib.Omega.{arith}
 use mathlib.Core.Path.{_≡_, refl, ap, sym, _∙_, subst}
 use mathlib.Core.Bool.{Bool, true, false}
 use mathlib.Core.List.{List, [], _∷_, _++_}
-use mathlib.Core.Logic.{⊎-elim}
-use lib.ListN.{length}
-use Rattle.align.specs.Align.{Power, power-pos}
+use Rattle.align.specs.Align.{Power}
 use Rattle.bits.specs.First.{firstSet, first-from, first-agree}
 use Rattle.bits.specs.Map.{lists, mapBit}
-use Rattle.class.specs.Class.{listOf, startOf, floor, floor-at, floor-lt, floor-order, start-enough, start-fits}
+use Rattle.class.specs.Class.{startOf, floor, floor-at, floor-lt, floor-order, start-enough, start-fits}
 use Rattle.definition.specs.Calls.{wanted, place, keeps}
 use Rattle.invariants.specs.Placing.{keeps-wanted}
-use Rattle.script.specs.Memory.{Memory, Live, Mark, none, Write, _at_≔_}
-use Rattle.script.specs.Script.{Script, Result, ok, no, run, done, first, unlessLe, _>>=_, _>>_, goes, halts, searches, gives-done, gives-le, halts-le}
+use Rattle.script.specs.Memory.{Live, Mark, none, Write, _at_≔_}
+use Rattle.script.specs.Script.{Script, Result, ok, no, run, done, unlessLe, _>>=_, _>>_, goes, halts, searches, gives-done, gives-le, halts-le}
 use Rattle.sound.specs.Links.{unlinkWrites}
 use Rattle.sound.specs.Plans.{leaveScript, padWrites, takeScript}
 use Rattle.sound.specs.Plans.{Plan as Answer}

@@ -2,15 +2,15 @@
 -- rest goes to the same list, its head will be what is next. Each law is one return of the code.
 use Prim.Native.Nat.{ℕ, suc, _+_, _-_, _*_, _≤_, _<_}
 use native.Mathlib.Omega.{arith}
-use mathlib.Core.Path.{_≡_, refl, ap, sym, _∙_, subst}
+use mathlib.Core.Path.{_≡_, refl, ap, sym, _∙_}
 use mathlib.Core.Bool.{Bool, true, false}
-use mathlib.Core.List.{List, [], _∷_, _++_}
+use mathlib.Core.List.{List, _++_}
 use mathlib.Core.Logic.{⊎-elim}
 use Rattle.choice.specs.Choice.{ifEq, eq-yes, eq-no, eq-case, same?}
 use Rattle.bits.specs.Map.{lists}
 use Rattle.class.specs.Class.{listOf, list-mono}
-use Rattle.script.specs.Memory.{Memory, Next, Prev, Mark, none, root, Write, _at_≔_, latest}
-use Rattle.script.specs.Script.{Script, Result, ok, no, run, done, _>>=_, _>>_, goes, halts, gives-done, gives-le}
+use Rattle.script.specs.Memory.{Memory, Next, none, root, Write, latest}
+use Rattle.script.specs.Script.{Script, ok, run, done, _>>=_, _>>_, goes, halts, gives-done, gives-le}
 use Rattle.sound.specs.Checks.{mustList, seeHead}
 use Rattle.sound.specs.Links.{node, unlinkWrites, pushWrites}
 use Rattle.sound.specs.Plans.{wholeWrites, splitWrites, leaveScript}
@@ -19,7 +19,7 @@ use Rattle.slices.specs.Slices.{memoryOf}
 use Rattle.free_list.specs.declared.Head.{Head}
 use Rattle.free_list.specs.Lent.{lent, link}
 use Rattle.free_list.specs.Back.{answer}
-use Rattle.free_list.specs.Seen.{shownHead, SeenHead}
+use Rattle.free_list.specs.Seen.{SeenHead}
 use Rattle.allocate.specs.declared.Rest.{Rest}
 
 -- twelve first-level classes

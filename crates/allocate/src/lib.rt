@@ -1,7 +1,7 @@
 // Taking a block: what a take found and will write, planned before anything is written. The arena, the map and the heads
 // of the lists are lent. Links are words: the bytes of a grain, or none.
 ghost use mathlib.Core.Path.{_≡_};
-ghost use Prim.Native.Nat.{_+_, _*_, _≤_, _<_, _^_};
+ghost use Prim.Native.Nat.{_+_, _≤_, _<_};
 ghost use lib.ListN.{length as lengthOf};
 ghost use Rattle.choice.specs.Says.{Says};
 ghost use Rattle.choice.specs.Choice.{ifEq};

@@ -1,17 +1,17 @@
 -- A planned take, carried out: what the slices have room for before it, and what they are after it.
 use Prim.Native.Nat.{ℕ, _+_, _*_, _/_, _≤_, _<_}
 use native.Mathlib.Omega.{arith}
-use mathlib.Core.Path.{_≡_, refl, ap, sym, _∙_, subst}
+use mathlib.Core.Path.{_≡_, refl, ap, sym, _∙_}
 use mathlib.Core.List.{List, [], _∷_, _++_, append-assoc}
 use mathlib.Core.Logic.{⊎-elim}
 use lib.ListN.{length}
-use Rattle.choice.specs.Choice.{ifEq, eq-yes, eq-no, same?}
+use Rattle.choice.specs.Choice.{eq-yes, eq-no, same?}
 use Rattle.bits.specs.TableBit.{setTableBit, clearTableBit}
 use Rattle.script.specs.Memory.{Live, none, Write, _at_≔_}
 use Rattle.sound.specs.Links.{unlinkWrites, pushWrites}
-use Rattle.sound.specs.Plans.{wholeWrites, splitWrites, padWrites}
+use Rattle.sound.specs.Plans.{splitWrites, padWrites}
 use Rattle.slices.specs.Decode.{grains}
-use Rattle.slices.specs.Slices.{Slices, stores, withLive}
+use Rattle.slices.specs.Slices.{Slices, stores}
 use Rattle.slices.specs.Kept.{stores-append}
 use Rattle.free_list.specs.Lent.{lent, Room, Leads, noLink, link, link-none, link-keep}
 use Rattle.free_list.specs.Written.{Written, written-then, written-as, written-length}

@@ -1,5 +1,4 @@
 // A planned take, carried out: the writes of its plan, in their order, and nothing else.
-ghost use mathlib.Core.Path.{_≡_};
 ghost use Rattle.occupy.specs.Taken.{Ready, Taken, takenWrites};
 
 // A link that leads nowhere.
