@@ -16,7 +16,9 @@ use Rattle.slices.specs.Kept.{stores-append}
 use Rattle.free_list.specs.Lent.{lent, Room, Leads, noLink, link, link-none, link-keep}
 use Rattle.free_list.specs.Written.{Written, written-then, written-as, written-length}
 use Rattle.carve.specs.Made.{WrittenInArena, leftBehind}
+use Rattle.allocate.specs.declared.Plan.{Plan}
 use Rattle.allocate.specs.Rest.{leftWrites}
+use Rattle.allocate.specs.Plan.{madeBy, Bounded}
 
 -- room for all that is written: the bounds that a plan which was not refused keeps
 pub record Ready (a l v : List ℕ) (k x y s m q h d : ℕ) : Type 0 where
@@ -87,3 +89,14 @@ take-made a l v b n c o e i k x y s m q h d f w1 w2 w3 g = taken a l v e o i (ta
     last t =
         lit t ∙ ap (λ (S : Slices). stores 8 S bit) (whole .slices v t) ∙ sym (stores-append 8 (lent a l v t) (u ++ (r ++ padWrites y d)) bit)
         ∙ ap (stores 8 (lent a l v t)) (ordered u r (padWrites y d) bit ∙ ap (λ (w : List Write). w ++ (padWrites y d ++ bit)) (sym (left-is a k x y s m q h)))
+
+-- ---- a plan that was not refused
+
+module _ (a l v : List ℕ) (r : Plan) where
+  -- has room for its writes, where the live bits reach to its payload
+  pub plan-ready : Bounded a l r → 2 * r .at + r .place < 64 * length v → Ready a l v (r .list) (r .next) (r .at) (r .grains) (r .keep) (r .«rest_list») (r .head) (r .place)
+  plan-ready b h = record { list = b .list; next = b .next; kept = b .kept; block = b .block; rest = b .rest; some = b .some; pad = b .pad; live = h }
+
+  -- and these are its writes
+  pub plan-writes : takenWrites a (r .list) (r .next) (r .at) (r .grains) (r .keep) (r .«rest_list») (r .head) (r .place) ≡ madeBy a r .writes
+  plan-writes = refl
