@@ -1,7 +1,7 @@
 // The free lists, as they stand in the lent slices: the links in the arena, the map and the heads in the table of the
 // lists. Links are words: the bytes of a grain, or none. What contradicts itself is found before anything is written.
 ghost use mathlib.Core.Path.{_≡_};
-ghost use Prim.Native.Nat.{_+_, _*_, _≤_, _<_};
+ghost use Prim.Native.Nat.{_+_, _*_, _<_};
 ghost use Rattle.choice.specs.Says.{Says};
 ghost use Rattle.table.specs.Table.{entry};
 ghost use Rattle.bits.specs.Map.{mapWords};

@@ -1,8 +1,7 @@
 // The words of a header, as they stand in the arena, and what they say. A grain is 32 bytes, four words; word f of grain g
 // is word number 4 * g + f of the arena. No crate above this one knows a byte of it.
 ghost use mathlib.Core.Path.{_≡_};
-ghost use Prim.Native.Nat.{_+_, _*_, _≤_, _<_};
-ghost use lib.ListN.{length};
+ghost use Prim.Native.Nat.{_+_, _*_, _<_};
 ghost use Rattle.choice.specs.Says.{Says};
 ghost use Rattle.word.specs.Word.{wordAt, putAt};
 ghost use Rattle.sound.specs.Checks.{wordOf};
