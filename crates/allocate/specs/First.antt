@@ -2,19 +2,19 @@
 -- list, a block in use behind it in the arena, and all links lead back. Each law is one return of the code.
 use Prim.Native.Nat.{ℕ, suc, _+_, _*_, _≤_, _<_}
 use native.Mathlib.Omega.{arith}
-use mathlib.Core.Path.{_≡_, refl, ap, sym, _∙_, subst}
+use mathlib.Core.Path.{_≡_, refl, ap, sym, _∙_}
 use mathlib.Core.Bool.{Bool, true, false}
 use mathlib.Core.List.{List}
-use mathlib.Core.Logic.{⊎-elim}
+use mathlib.Core.Logic.{inl, inr, ⊎-elim}
 use lib.ListN.{length}
-use Rattle.choice.specs.Choice.{ifEq, eq-yes, eq-no, le?, same?}
+use Rattle.choice.specs.Choice.{same?}
 use Rattle.choice.specs.Says.{Says}
 use Rattle.word.specs.Word.{wordAt}
 use Rattle.table.specs.Table.{entry}
 use Rattle.bits.specs.Map.{mapWords, lists}
 use Rattle.class.specs.Class.{listOf}
 use Rattle.script.specs.Memory.{Memory, Size, Before, Next, Prev, none, root}
-use Rattle.script.specs.Script.{Script, Result, ok, no, run, done, stop, _>>=_, _>>_, get, mustEq, goes, halts, reads, runs-stop, gives-eq, gives-le, halts-eq, halts-le}
+use Rattle.script.specs.Script.{Script, Result, ok, no, run, _>>=_, _>>_, get, mustEq, goes, halts, reads, runs-stop, gives-eq, gives-le, halts-eq, halts-le}
 use Rattle.sound.specs.Checks.{Word, isFree, isUsed, isLast, isBad, wordOf, asFree, asBusy, mustGrain, mustLead, mustBack, mustBusy, mustFree}
 use Rattle.sound.specs.Plans.{Plan}
 use Rattle.slices.specs.Decode.{grains, wrongLink, Inside}
@@ -22,7 +22,7 @@ use Rattle.slices.specs.Arena.{sizeAt, linkAt, link-in, size-inside}
 use Rattle.slices.specs.Slices.{memoryOf, memory-size, memory-before}
 use Rattle.header.specs.Turned.{turned}
 use Rattle.header.specs.Told.{freeOf, busyOf}
-use Rattle.free_list.specs.Lent.{lent, noLink, link, link-none, link-some, link-grain, link-past}
+use Rattle.free_list.specs.Lent.{lent, Leads, noLink, link, link-none, link-some, link-grain, link-past}
 use Rattle.free_list.specs.Back.{Back, reading-next, reading-prev, back-yes, back-no}
 use Rattle.free_list.specs.Seen.{head-read}
 use Rattle.allocate.specs.declared.First.{First}
@@ -91,7 +91,7 @@ after false x = no 5
 pub record SeenFirst (a l : List ℕ) (k : ℕ) (r : First) : Type 0 where
   pub seen : (v t : List ℕ) (f : ℕ → ℕ → ℕ → Script Plan) →
       run (memoryOf 8 (lent a l v t)) (firstThen (grains 8 a) k f) ≡ after (r .ok) (run (memoryOf 8 (lent a l v t)) (f (r .at) (r .grains) (link a (r .next))))
-  pub inside : r .ok ≡ true → (r .at + r .grains < grains 8 a) × (0 < r .grains) × (listOf (r .grains) ≡ k)
+  pub inside : r .ok ≡ true → (r .at + r .grains < grains 8 a) × (0 < r .grains) × (listOf (r .grains) ≡ k) × Leads a (r .next)
 
 -- ---- the parts, on any memory
 
@@ -147,6 +147,11 @@ free-word isBad n y g i e p = absurd (p e)
 
 pub free-inside : (a : List ℕ) (y g : ℕ) → g ≡ freeOf (wordOf (sizeAt 8 a y)) → (g ≡ 0 → ⊥) → y + g < grains 8 a
 free-inside a y g e p = free-word (wordOf (sizeAt 8 a y)) (grains 8 a) y g (size-inside 8 a y) e p .1
+
+-- a link that leads back leads
+back-leads : (a : List ℕ) (y x : ℕ) → Back a Prev x y → Leads a x
+back-leads a y x (inl e) = inl e
+back-leads a y x (inr q) = inr (q .0)
 
 -- ---- the returns
 
@@ -225,5 +230,5 @@ module _ (a l : List ℕ) (k h y : ℕ) (s : length a < 18446744073709551616) (j
           first-seen d b = rw d (record {
             seen = λ v t f. links-are v t f
                 ∙ ends (memoryOf 8 (lent a l v t)) (grains 8 a) y g f (link a x) (wordOf (sizeAt 8 a (y + g))) (ap wordOf (memory-size 8 (lent a l v t) (y + g))) (b .0) (reading-before a l v t (y + g) first-inside ∙ b .1);
-            inside = λ _. (first-inside, omega (arith, p), sym w ∙ z);
+            inside = λ _. (first-inside, omega (arith, p), sym w ∙ z, back-leads a y x (u .1));
           })

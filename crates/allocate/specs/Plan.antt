@@ -1,26 +1,24 @@
 -- What a plan of a take says: the writes, spelled from its numbers, or a refusal; and that this is what the script of a
 -- take answers. Each law is one return of the code.
-use Prim.Native.Nat.{ℕ, zero, suc, _+_, _-_, _*_, _/_, _%_, _^_, _≤_, _<_}
+use Prim.Native.Nat.{ℕ, zero, suc, _+_, _-_, _*_, _/_, _^_, _≤_, _<_}
 use native.Mathlib.Omega.{arith}
 use mathlib.Core.Path.{_≡_, refl, ap, sym, _∙_, subst}
 use mathlib.Core.Bool.{Bool, true, false}
 use mathlib.Core.List.{List, [], _∷_, _++_}
-use mathlib.Core.Logic.{⊎-elim}
-use lib.ListN.{length}
-use Rattle.align.specs.Align.{Power, power-pos}
+use Rattle.align.specs.Align.{Power}
 use Rattle.bits.specs.First.{firstSet, first-from, first-agree}
 use Rattle.bits.specs.Map.{lists, mapBit}
-use Rattle.class.specs.Class.{listOf, startOf, floor, floor-at, floor-lt, floor-order, start-enough, start-fits}
+use Rattle.class.specs.Class.{startOf, floor, floor-at, floor-lt, floor-order, start-enough, start-fits}
 use Rattle.definition.specs.Calls.{wanted, place, keeps}
-use Rattle.invariants.specs.Placing.{keeps-wanted}
-use Rattle.script.specs.Memory.{Memory, Live, Mark, none, Write, _at_≔_}
-use Rattle.script.specs.Script.{Script, Result, ok, no, run, done, first, unlessLe, _>>=_, _>>_, goes, halts, searches, gives-done, gives-le, halts-le}
+use Rattle.invariants.specs.Placing.{place-some, keeps-wanted}
+use Rattle.script.specs.Memory.{Live, Mark, none, Write, _at_≔_}
+use Rattle.script.specs.Script.{Script, Result, ok, no, run, done, unlessLe, _>>=_, _>>_, goes, halts, searches, gives-done, gives-le, halts-le}
 use Rattle.sound.specs.Links.{unlinkWrites}
 use Rattle.sound.specs.Plans.{leaveScript, padWrites, takeScript}
 use Rattle.sound.specs.Plans.{Plan as Answer}
 use Rattle.slices.specs.Decode.{grains}
 use Rattle.slices.specs.Slices.{memoryOf, memory-mark}
-use Rattle.free_list.specs.Lent.{lent, link}
+use Rattle.free_list.specs.Lent.{lent, Room, Leads, link}
 use Rattle.free_list.specs.Back.{answer}
 use Rattle.allocate.specs.declared.Plan.{Plan}
 use Rattle.allocate.specs.declared.First.{First}
@@ -54,9 +52,20 @@ shown a r = byRefusal (r .refusal) (madeBy a r)
 abbrev pub Refuses : ℕ → Plan → Type 0
 Refuses w r = r .refusal ≡ w
 
+-- room for all that is written, where it is not refused
+pub record Bounded (a l : List ℕ) (r : Plan) : Type 0 where
+  pub list : Room (r .list) l
+  pub next : Leads a (r .next)
+  pub kept : r .keep ≤ r .grains
+  pub block : r .at + r .grains < grains 8 a
+  pub rest : (r .keep ≡ r .grains → ⊥) → Room (r .«rest_list») l × Leads a (r .head)
+  pub some : 0 < r .place
+  pub pad : r .at + r .place / 2 < grains 8 a
+
 -- it is what the script answers
-abbrev pub Plans : List ℕ → List ℕ → ℕ → ℕ → Plan → Type 0
-Plans a l p u r = (v t : List ℕ) → shown a r ≡ run (memoryOf 8 (lent a l v t)) (takeScript (grains 8 a) classes p u)
+pub record Plans (a l : List ℕ) (p u : ℕ) (r : Plan) : Type 0 where
+  pub answers : (v t : List ℕ) → shown a r ≡ run (memoryOf 8 (lent a l v t)) (takeScript (grains 8 a) classes p u)
+  pub bounds : r .refusal ≡ 0 → Bounded a l r
 
 -- the part of the script behind the checks of the first block
 abbrev cutScript : ℕ → ℕ → ℕ → ℕ → ℕ → ℕ → ℕ → Script Answer
@@ -64,8 +73,13 @@ cutScript n k p u y s x = do
   w ← leaveScript n classes (unlinkWrites k x none) y s (keeps (place u y) p)
   done (madeOf y (place u y) w)
 
-abbrev pub Cuts : List ℕ → List ℕ → ℕ → ℕ → ℕ → ℕ → ℕ → ℕ → Plan → Type 0
-Cuts a l k y s x p u r = (v t : List ℕ) → shown a r ≡ run (memoryOf 8 (lent a l v t)) (cutScript (grains 8 a) k p u y s (link a x))
+pub record Cuts (a l : List ℕ) (k y s x p u : ℕ) (r : Plan) : Type 0 where
+  pub answers : (v t : List ℕ) → shown a r ≡ run (memoryOf 8 (lent a l v t)) (cutScript (grains 8 a) k p u y s (link a x))
+  pub bounds : r .refusal ≡ 0 → Bounded a l r
+
+-- a refusal needs no room
+refused : (a l : List ℕ) (w : ℕ) (r : Plan) → 0 < w → Refuses w r → r .refusal ≡ 0 → Bounded a l r
+refused a l w r h e z = absurd (omega arith)
 
 -- ---- behind the first block
 
@@ -76,26 +90,48 @@ keeps-within u y p s d m h e q l =
     omega (arith, g, keeps-wanted u y p h)
 
 -- the rest is damaged
-pub cut-damaged : (a l : List ℕ) (k y s x p u d m : ℕ) (r : Plan) (o : Rest) → Refuses 5 r → d ≡ place u y → m ≡ keeps d p
-    → SeenRest a l k x s m o → o .ok ≡ false → Cuts a l k y s x p u r
-cut-damaged a l k y s x p u d m r o f e q w b v t =
+damaged-answers : (a l : List ℕ) (k y s x p u d m : ℕ) (r : Plan) (o : Rest) → Refuses 5 r → d ≡ place u y → m ≡ keeps d p
+    → SeenRest a l k x s m o → o .ok ≡ false → (v t : List ℕ) → shown a r ≡ run (memoryOf 8 (lent a l v t)) (cutScript (grains 8 a) k p u y s (link a x))
+damaged-answers a l k y s x p u d m r o f e q w b v t =
     let c = memoryOf 8 (lent a l v t) in
     let g : m ≡ keeps (place u y) p = q ∙ ap (λ (z : ℕ). keeps z p) e in
-    let h = sym (w v t y) ∙ ap (λ (z : Bool). answer z (leftWrites a k x y s m (o .list) (o .head))) b in
+    let h = sym (w .seen v t y) ∙ ap (λ (z : Bool). answer z (leftWrites a k x y s m (o .list) (o .head))) b in
     ap (λ (z : ℕ). byRefusal z (madeBy a r)) f
     ∙ sym (halts c (leaveScript (grains 8 a) classes (unlinkWrites k (link a x) none) y s (keeps (place u y) p)) _ (subst (λ (z : ℕ). run c (leaveScript (grains 8 a) classes (unlinkWrites k (link a x) none) y s z) ≡ no 5) g h))
 
+pub cut-damaged : (a l : List ℕ) (k y s x p u d m : ℕ) (r : Plan) (o : Rest) → Refuses 5 r → d ≡ place u y → m ≡ keeps d p
+    → SeenRest a l k x s m o → o .ok ≡ false → Cuts a l k y s x p u r
+cut-damaged a l k y s x p u d m r o f e q w b = record { answers = damaged-answers a l k y s x p u d m r o f e q w b; bounds = refused a l 5 r (omega arith) f }
+
 -- all agrees
-pub cut-made : (a l : List ℕ) (k y s x p u d m : ℕ) (o : Rest) → d ≡ place u y → m ≡ keeps d p
-    → SeenRest a l k x s m o → o .ok ≡ true
-    → Cuts a l k y s x p u (record { refusal = 0; list = k; at = y; grains = s; next = x; place = d; keep = m; «rest_list» = o .list; head = o .head })
-cut-made a l k y s x p u d m o e q w b v t =
+abbrev cutPlan : ℕ → ℕ → ℕ → ℕ → ℕ → ℕ → Rest → Plan
+cutPlan k y s x d m o = record { refusal = 0; list = k; at = y; grains = s; next = x; place = d; keep = m; «rest_list» = o .list; head = o .head }
+
+made-answers : (a l : List ℕ) (k y s x p u d m : ℕ) (o : Rest) → d ≡ place u y → m ≡ keeps d p → SeenRest a l k x s m o → o .ok ≡ true
+    → (v t : List ℕ) → shown a (cutPlan k y s x d m o) ≡ run (memoryOf 8 (lent a l v t)) (cutScript (grains 8 a) k p u y s (link a x))
+made-answers a l k y s x p u d m o e q w b v t =
     let c = memoryOf 8 (lent a l v t) in
     let g : m ≡ keeps (place u y) p = q ∙ ap (λ (z : ℕ). keeps z p) e in
-    let h = sym (w v t y) ∙ ap (λ (z : Bool). answer z (leftWrites a k x y s m (o .list) (o .head))) b in
+    let h = sym (w .seen v t y) ∙ ap (λ (z : Bool). answer z (leftWrites a k x y s m (o .list) (o .head))) b in
     ap (λ (z : ℕ). ok (madeOf y z (leftWrites a k x y s m (o .list) (o .head)))) e
     ∙ sym (goes c (leaveScript (grains 8 a) classes (unlinkWrites k (link a x) none) y s (keeps (place u y) p)) _ (subst (λ (z : ℕ). run c (leaveScript (grains 8 a) classes (unlinkWrites k (link a x) none) y s z) ≡ ok (leftWrites a k x y s m (o .list) (o .head))) g h)
     ∙ gives-done c _)
+
+-- and there is room
+pub cut-made : (a l : List ℕ) (k y s x p u d m : ℕ) (o : Rest) → 0 < u → Room k l → Leads a x → y + s < grains 8 a → wanted p u ≤ s → d ≡ place u y → m ≡ keeps d p
+    → SeenRest a l k x s m o → o .ok ≡ true → Cuts a l k y s x p u (cutPlan k y s x d m o)
+cut-made a l k y s x p u d m o h g f i j e q w b = record {
+  answers = made-answers a l k y s x p u d m o e q w b;
+  bounds = λ _. record {
+    list = g;
+    next = f;
+    kept = keeps-within u y p s d m h e q j;
+    block = i;
+    rest = λ n. let r = w .ready n b in (record { known = r .0; room = g .room }, r .1 f);
+    some = omega (arith, place-some u y h);
+    pad = omega (arith, keeps-within u y p s d m h e q j);
+  };
+}
 
 -- ---- the search
 
@@ -125,11 +161,14 @@ module _ (a l : List ℕ) (p u c k : ℕ) (startIs : c ≡ startOf (wanted p u))
       (first-agree (m Mark) (mapBit l) (lists - startOf (wanted p u)) (startOf (wanted p u)) (λ j _ _. memory-mark 8 (lent a l v t) j) ∙ i)
 
   -- no list has a block
-  pub plan-none : (r : Plan) → Refuses 1 r → lists ≤ k → Plans a l p u r
-  plan-none r e h v t =
+  none-answers : (r : Plan) → Refuses 1 r → lists ≤ k → (v t : List ℕ) → shown a r ≡ run (memoryOf 8 (lent a l v t)) (takeScript (grains 8 a) classes p u)
+  none-answers r e h v t =
       let m = memoryOf 8 (lent a l v t) in
       ap (λ (z : ℕ). byRefusal z (madeBy a r)) e
       ∙ sym (searched v t ∙ halts m (unlessLe 1 (suc k) (16 * classes)) _ (halts-le m 1 (suc k) (16 * classes) (omega arith)))
+
+  pub plan-none : (r : Plan) → Refuses 1 r → lists ≤ k → Plans a l p u r
+  plan-none r e h = record { answers = none-answers r e h; bounds = refused a l 1 r (omega arith) e }
 
   module _ (h : k < lists) (o : First) (w : SeenFirst a l k o) where
     seen : (v t : List ℕ) → run (memoryOf 8 (lent a l v t)) (takeScript (grains 8 a) classes p u)
@@ -140,16 +179,21 @@ module _ (a l : List ℕ) (p u c k : ℕ) (startIs : c ≡ startOf (wanted p u))
         ∙ w .seen v t (cutScript (grains 8 a) k p u)
 
     -- its first block is damaged
-    pub plan-damaged : (r : Plan) → Refuses 5 r → o .ok ≡ false → Plans a l p u r
-    plan-damaged r e b v t =
+    lost-answers : (r : Plan) → Refuses 5 r → o .ok ≡ false → (v t : List ℕ) → shown a r ≡ run (memoryOf 8 (lent a l v t)) (takeScript (grains 8 a) classes p u)
+    lost-answers r e b v t =
         ap (λ (z : ℕ). byRefusal z (madeBy a r)) e
         ∙ sym (seen v t ∙ ap (λ (z : Bool). after z (run (memoryOf 8 (lent a l v t)) (cutScript (grains 8 a) k p u (o .at) (o .grains) (link a (o .next))))) b)
 
+    pub plan-damaged : (r : Plan) → Refuses 5 r → o .ok ≡ false → Plans a l p u r
+    plan-damaged r e b = record { answers = lost-answers r e b; bounds = refused a l 5 r (omega arith) e }
+
     -- its first block is taken
     pub plan-cut : (r : Plan) → o .ok ≡ true → Cuts a l k (o .at) (o .grains) (o .next) p u r → Plans a l p u r
-    plan-cut r b q v t =
-        q v t
-        ∙ sym (seen v t ∙ ap (λ (z : Bool). after z (run (memoryOf 8 (lent a l v t)) (cutScript (grains 8 a) k p u (o .at) (o .grains) (link a (o .next))))) b)
+    plan-cut r b q = record {
+      answers = λ v t. q .answers v t
+          ∙ sym (seen v t ∙ ap (λ (z : Bool). after z (run (memoryOf 8 (lent a l v t)) (cutScript (grains 8 a) k p u (o .at) (o .grains) (link a (o .next))))) b);
+      bounds = q .bounds;
+    }
 
     -- and has what is wanted
     pub plan-enough : 0 < wanted p u → o .ok ≡ true → wanted p u ≤ o .grains

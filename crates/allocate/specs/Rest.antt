@@ -4,22 +4,24 @@ use Prim.Native.Nat.{ℕ, suc, _+_, _-_, _*_, _≤_, _<_}
 use native.Mathlib.Omega.{arith}
 use mathlib.Core.Path.{_≡_, refl, ap, sym, _∙_, subst}
 use mathlib.Core.Bool.{Bool, true, false}
-use mathlib.Core.List.{List, [], _∷_, _++_}
+use mathlib.Core.List.{List, _++_}
 use mathlib.Core.Logic.{⊎-elim}
+use lib.ListN.{length}
 use Rattle.choice.specs.Choice.{ifEq, eq-yes, eq-no, eq-case, same?}
 use Rattle.bits.specs.Map.{lists}
 use Rattle.class.specs.Class.{listOf, list-mono}
-use Rattle.script.specs.Memory.{Memory, Next, Prev, Mark, none, root, Write, _at_≔_, latest}
-use Rattle.script.specs.Script.{Script, Result, ok, no, run, done, _>>=_, _>>_, goes, halts, gives-done, gives-le}
+use Rattle.script.specs.Memory.{Memory, Next, none, root, Write, latest}
+use Rattle.script.specs.Script.{Script, ok, run, done, _>>=_, _>>_, goes, halts, gives-done, gives-le}
 use Rattle.sound.specs.Checks.{mustList, seeHead}
 use Rattle.sound.specs.Links.{node, unlinkWrites, pushWrites}
 use Rattle.sound.specs.Plans.{wholeWrites, splitWrites, leaveScript}
 use Rattle.slices.specs.Decode.{grains}
 use Rattle.slices.specs.Slices.{memoryOf}
 use Rattle.free_list.specs.declared.Head.{Head}
-use Rattle.free_list.specs.Lent.{lent, link}
+use Rattle.free_list.specs.Lent.{lent, link, Leads}
 use Rattle.free_list.specs.Back.{answer}
-use Rattle.free_list.specs.Seen.{shownHead, SeenHead}
+use Rattle.free_list.specs.Seen.{SeenHead}
+use Rattle.free_list.specs.Leading.{head-leads}
 use Rattle.allocate.specs.declared.Rest.{Rest}
 
 -- twelve first-level classes
@@ -33,10 +35,11 @@ leftWrites a k x y s m q h = ifEq m s
     (unlinkWrites k (link a x) none ++ wholeWrites y s)
     ((unlinkWrites k (link a x) none ++ pushWrites q (y + m) (link a h)) ++ splitWrites y s m)
 
--- the answer is that of the script, wherever the block is
-abbrev pub SeenRest : List ℕ → List ℕ → ℕ → ℕ → ℕ → ℕ → Rest → Type 0
-SeenRest a l k x s m r = (v t : List ℕ) (y : ℕ) →
-    answer (r .ok) (leftWrites a k x y s m (r .list) (r .head)) ≡ run (memoryOf 8 (lent a l v t)) (leaveScript (grains 8 a) classes (unlinkWrites k (link a x) none) y s m)
+-- the answer is that of the script, wherever the block is; and the rest can be put before its head
+pub record SeenRest (a l : List ℕ) (k x s m : ℕ) (r : Rest) : Type 0 where
+  pub seen : (v t : List ℕ) (y : ℕ) →
+      answer (r .ok) (leftWrites a k x y s m (r .list) (r .head)) ≡ run (memoryOf 8 (lent a l v t)) (leaveScript (grains 8 a) classes (unlinkWrites k (link a x) none) y s m)
+  pub ready : (m ≡ s → ⊥) → r .ok ≡ true → (r .list < lists) × (Leads a x → Leads a (r .head))
 
 -- the head of list q, as it is after the first block of list k left
 head-latest : (k x q v : ℕ) → latest (unlinkWrites k x none) Next (root q) v ≡ ifEq q k x v
@@ -63,15 +66,16 @@ rest-listed s m k h n e j = omega (arith, list-mono (s - m) s (omega (arith, n))
 -- nothing is left
 pub rest-none : (a l : List ℕ) (k x s m : ℕ) → m ≡ s → SeenRest a l k x s m (record { ok = true; list = 0; head = 0 })
 unfolding leaveScript
-rest-none a l k x s m e v t y =
-    let c = memoryOf 8 (lent a l v t) in
-    ap ok (eq-yes m s _ _ e) ∙ sym (ap (run c) (eq-yes m s _ _ e) ∙ gives-done c _)
+rest-none a l k x s m e = record {
+  seen = λ v t y. ap ok (eq-yes m s _ _ e) ∙ sym (ap (run (memoryOf 8 (lent a l v t))) (eq-yes m s _ _ e) ∙ gives-done (memoryOf 8 (lent a l v t)) _);
+  ready = λ n _. absurd (n e);
+}
 
 -- the rest goes to list q, whose head was seen
-pub rest-some : (a l : List ℕ) (k x s m q h : ℕ) (r : Head) → (m ≡ s → ⊥) → q ≡ listOf (s - m) → q < lists → SeenHead a l q r → h ≡ ifEq q k x (r .word)
-    → SeenRest a l k x s m (record { ok = r .ok; list = q; head = h })
+rest-shown : (a l : List ℕ) (k x s m q h : ℕ) (r : Head) → (m ≡ s → ⊥) → q ≡ listOf (s - m) → q < lists → SeenHead a l q r → h ≡ ifEq q k x (r .word)
+    → (v t : List ℕ) (y : ℕ) → answer (r .ok) (leftWrites a k x y s m q h) ≡ run (memoryOf 8 (lent a l v t)) (leaveScript (grains 8 a) classes (unlinkWrites k (link a x) none) y s m)
 unfolding leaveScript
-rest-some a l k x s m q h r n e j w d v t y =
+rest-shown a l k x s m q h r n e j w d v t y =
     go (r .ok) (w v t) ∙ sym (ap (run c) (eq-no m s _ _ n))
   where
     c : Memory
@@ -96,3 +100,10 @@ rest-some a l k x s m q h r n e j w d v t y =
     go : (b : Bool) → answer b (link a (r .word)) ≡ run c (seeHead (grains 8 a) q) → answer b (leftWrites a k x y s m q h) ≡ run c rest
     go true z = ap ok (eq-no m s _ _ n ∙ ap (split q) head) ∙ sym (listed ∙ goes c (seeHead (grains 8 a) q) _ (sym z) ∙ gives-done c _)
     go false z = sym (listed ∙ halts c (seeHead (grains 8 a) q) _ (sym z))
+
+pub rest-some : (a l : List ℕ) (k x s m q h : ℕ) (r : Head) → length a < 18446744073709551616 → (m ≡ s → ⊥) → q ≡ listOf (s - m) → q < lists → SeenHead a l q r
+    → h ≡ ifEq q k x (r .word) → SeenRest a l k x s m (record { ok = r .ok; list = q; head = h })
+rest-some a l k x s m q h r f n e j w d = record {
+  seen = rest-shown a l k x s m q h r n e j w d;
+  ready = λ _ b. (j, λ g. subst (Leads a) (sym d) (eq-case (Leads a) q k x (r .word) (λ _. g) (λ _. head-leads a l q r f w b)));
+}

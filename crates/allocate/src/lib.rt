@@ -1,7 +1,7 @@
 // Taking a block: what a take found and will write, planned before anything is written. The arena, the map and the heads
 // of the lists are lent. Links are words: the bytes of a grain, or none.
 ghost use mathlib.Core.Path.{_≡_};
-ghost use Prim.Native.Nat.{_+_, _*_, _≤_, _<_, _^_};
+ghost use Prim.Native.Nat.{_+_, _≤_, _<_};
 ghost use lib.ListN.{length as lengthOf};
 ghost use Rattle.choice.specs.Says.{Says};
 ghost use Rattle.choice.specs.Choice.{ifEq};
@@ -9,7 +9,7 @@ ghost use Rattle.bits.specs.Map.{mapWords, lists as listCount};
 ghost use Rattle.class.specs.Class.{listOf};
 ghost use Rattle.definition.specs.Calls.{wanted as wantedOf};
 ghost use Rattle.slices.specs.Decode.{grains as grainsOf};
-ghost use Rattle.free_list.specs.Lent.{Room};
+ghost use Rattle.free_list.specs.Lent.{Room, Leads};
 ghost use Rattle.allocate.specs.First.{IsFirst, IsBounded, Lost, SeenFirst};
 ghost use Rattle.allocate.specs.Rest.{SeenRest};
 ghost use Rattle.allocate.specs.Plan.{InRange, Refuses, Cuts, Plans};
@@ -108,7 +108,7 @@ fn cut(
     length: usize,
     multiple: usize,
 ) -> Plan
-    requires { ⌜ InRange length multiple × Room list (now lists) × (at + grains < grainsOf 8 (now a)) × (listOf grains ≡ list) × (wantedOf length multiple ≤ grains) ⌝ }
+    requires { ⌜ InRange length multiple × Room list (now lists) × (at + grains < grainsOf 8 (now a)) × (listOf grains ≡ list) × (wantedOf length multiple ≤ grains) × Leads (now a) next ⌝ }
     ensures { λ r. ⌜ Cuts (now (a .entry)) (now (lists .entry)) list at grains next length multiple r ⌝ }
 {
     let place = request::place_of(multiple, at);

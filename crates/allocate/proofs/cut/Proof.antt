@@ -48,7 +48,7 @@ returns-2 c =
     let p = k .before in
     let s = p .before .before .before in
     cut-made (s .args .a .now) (s .args .lists .now) (s .args .list) (s .args .at) (s .args .grains) (s .args .next) (s .args .length) (s .args .multiple) (p .place-of .result) (k .keeps-of .result)
-    (r .see-rest .result) (p .place-of .ensures) (k .keeps-of .ensures) (r .see-rest .ensures) (not-false _ (c .if1 .left))
+    (r .see-rest .result) (power-pos (s .args .multiple) (s .pre .0 .power)) (s .pre .1) (s .pre .5) (s .pre .2) (s .pre .4) (p .place-of .ensures) (k .keeps-of .ensures) (r .see-rest .ensures) (not-false _ (c .if1 .left))
 
 pub cut-spec : {M : Type 1} → statement M
 cut-spec =

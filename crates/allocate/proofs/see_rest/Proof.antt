@@ -39,7 +39,7 @@ returns-2 c =
     let m = h .before in
     let e = m .before in
     let s = e .before .before .before in
-    rest-some (s .args .a .now) (s .args .lists .now) (s .args .k) (s .args .next) (s .args .grains) (s .args .keep) (m .map-floor .result) (c .head-after .result) (h .see-head .result)
+    rest-some (s .args .a .now) (s .args .lists .now) (s .args .k) (s .args .next) (s .args .grains) (s .args .keep) (m .map-floor .result) (c .head-after .result) (h .see-head .result) (s .good .0 .0)
     (e .if1 .left) (m .map-floor .ensures) (listed m) (h .see-head .ensures) (c .head-after .ensures)
 
 pub see-rest-spec : {M : Type 1} → statement M

@@ -1,0 +1,2 @@
+-- The writes that make a block, as they stand in the arena.
+pub mod Made

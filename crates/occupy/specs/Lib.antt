@@ -1,0 +1,2 @@
+-- A planned take, carried out.
+pub mod Taken

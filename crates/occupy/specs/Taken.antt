@@ -1,0 +1,102 @@
+-- A planned take, carried out: what the slices have room for before it, and what they are after it.
+use Prim.Native.Nat.{ℕ, _+_, _*_, _/_, _≤_, _<_}
+use native.Mathlib.Omega.{arith}
+use mathlib.Core.Path.{_≡_, refl, ap, sym, _∙_}
+use mathlib.Core.List.{List, [], _∷_, _++_, append-assoc}
+use mathlib.Core.Logic.{⊎-elim}
+use lib.ListN.{length}
+use Rattle.choice.specs.Choice.{eq-yes, eq-no, same?}
+use Rattle.bits.specs.TableBit.{setTableBit, clearTableBit}
+use Rattle.script.specs.Memory.{Live, none, Write, _at_≔_}
+use Rattle.sound.specs.Links.{unlinkWrites, pushWrites}
+use Rattle.sound.specs.Plans.{splitWrites, padWrites}
+use Rattle.slices.specs.Decode.{grains}
+use Rattle.slices.specs.Slices.{Slices, stores}
+use Rattle.slices.specs.Kept.{stores-append}
+use Rattle.free_list.specs.Lent.{lent, Room, Leads, noLink, link, link-none, link-keep}
+use Rattle.free_list.specs.Written.{Written, written-then, written-as, written-length}
+use Rattle.carve.specs.Made.{WrittenInArena, leftBehind}
+use Rattle.allocate.specs.declared.Plan.{Plan}
+use Rattle.allocate.specs.Rest.{leftWrites}
+use Rattle.allocate.specs.Plan.{madeBy, Bounded}
+
+-- room for all that is written: the bounds that a plan which was not refused keeps
+pub record Ready (a l v : List ℕ) (k x y s m q h d : ℕ) : Type 0 where
+  pub list : Room k l
+  pub next : Leads a x
+  pub kept : m ≤ s
+  pub block : y + s < grains 8 a
+  pub rest : (m ≡ s → ⊥) → Room q l × Leads a h
+  pub some : 0 < d
+  pub pad : y + d / 2 < grains 8 a
+  pub live : 2 * y + d < 64 * length v
+
+-- the writes of the plan with these numbers
+abbrev pub takenWrites : List ℕ → ℕ → ℕ → ℕ → ℕ → ℕ → ℕ → ℕ → ℕ → List Write
+takenWrites a k x y s m q h d = leftWrites a k x y s m q h ++ (padWrites y d ++ ((Live at 2 * y + d ≔ 1) ∷ []))
+
+-- they made b, n and o of the arena a, the lists l and the live bits v; the regions stay
+pub record Taken (a l v : List ℕ) (w : List Write) (b n o : List ℕ) : Type 0 where
+  pub arena : (t : List ℕ) → b ≡ stores 8 (lent a l v t) w .arena
+  pub lists : (t : List ℕ) → n ≡ stores 8 (lent a l v t) w .lists
+  pub live : (t : List ℕ) → o ≡ stores 8 (lent a l v t) w .live
+  pub slices : (t : List ℕ) → lent b n o t ≡ stores 8 (lent a l v t) w
+
+taken : (a l v b n o : List ℕ) (w : List Write) → ((t : List ℕ) → lent b n o t ≡ stores 8 (lent a l v t) w) → Taken a l v w b n o
+taken a l v b n o w h = record {
+  arena = λ t. ap (λ (S : Slices). S .arena) (h t);
+  lists = λ t. ap (λ (S : Slices). S .lists) (h t);
+  live = λ t. ap (λ (S : Slices). S .live) (h t);
+  slices = h;
+}
+
+-- the writes that leave the list, and then those that make the block
+left-is : (a : List ℕ) (k x y s m q h : ℕ) → leftWrites a k x y s m q h ≡ unlinkWrites k (link a x) none ++ leftBehind y s m q (link a h)
+left-is a k x y s m q h = ⊎-elim
+    (λ (e : m ≡ s). eq-yes m s _ _ e ∙ ap (λ (w : List Write). unlinkWrites k (link a x) none ++ w) (sym (eq-yes m s _ _ e)))
+    (λ (n : m ≡ s → ⊥). eq-no m s _ _ n ∙ append-assoc (unlinkWrites k (link a x) none) (pushWrites q (y + m) (link a h)) (splitWrites y s m)
+    ∙ ap (λ (w : List Write). unlinkWrites k (link a x) none ++ w) (sym (eq-no m s _ _ n)))
+    (same? m s)
+
+-- the writes w, and then those of the pad and of the live bit
+ordered : (u w p z : List Write) → (u ++ (w ++ p)) ++ z ≡ (u ++ w) ++ (p ++ z)
+ordered u w p z = simp append-assoc
+
+-- the four steps
+pub take-made : (a l v b n c o e i : List ℕ) (k x y s m q h d : ℕ) → length a < 18446744073709551616
+    → Written a l (unlinkWrites k (link a x) (link a noLink)) b n → Written b n (leftBehind y s m q (link b h)) c o → WrittenInArena c (padWrites y d) e → i ≡ setTableBit v (2 * y + d)
+    → Taken a l v (takenWrites a k x y s m q h d) e o i
+take-made a l v b n c o e i k x y s m q h d f w1 w2 w3 g = taken a l v e o i (takenWrites a k x y s m q h d) last
+  where
+    u : List Write
+    u = unlinkWrites k (link a x) none
+
+    r : List Write
+    r = leftBehind y s m q (link a h)
+
+    bit : List Write
+    bit = (Live at 2 * y + d ≔ 1) ∷ []
+
+    whole : Written a l (u ++ (r ++ padWrites y d)) e o
+    whole = written-then
+        (written-as (ap (unlinkWrites k (link a x)) (sym (link-none a noLink f refl))) w1)
+        (written-then (written-as (ap (leftBehind y s m q) (sym (link-keep a b h (written-length w1)))) w2) (w3 o))
+
+    lit : (t : List ℕ) → lent e o i t ≡ stores 8 (lent e o v t) bit
+    lit t = ap (λ (z : List ℕ). lent e o z t) (g ∙ sym (eq-no 1 0 (clearTableBit v (2 * y + d)) (setTableBit v (2 * y + d)) (λ q. omega arith)))
+
+    last : (t : List ℕ) → lent e o i t ≡ stores 8 (lent a l v t) (takenWrites a k x y s m q h d)
+    last t =
+        lit t ∙ ap (λ (S : Slices). stores 8 S bit) (whole .slices v t) ∙ sym (stores-append 8 (lent a l v t) (u ++ (r ++ padWrites y d)) bit)
+        ∙ ap (stores 8 (lent a l v t)) (ordered u r (padWrites y d) bit ∙ ap (λ (w : List Write). w ++ (padWrites y d ++ bit)) (sym (left-is a k x y s m q h)))
+
+-- ---- a plan that was not refused
+
+module _ (a l v : List ℕ) (r : Plan) where
+  -- has room for its writes, where the live bits reach to its payload
+  pub plan-ready : Bounded a l r → 2 * r .at + r .place < 64 * length v → Ready a l v (r .list) (r .next) (r .at) (r .grains) (r .keep) (r .«rest_list») (r .head) (r .place)
+  plan-ready b h = record { list = b .list; next = b .next; kept = b .kept; block = b .block; rest = b .rest; some = b .some; pad = b .pad; live = h }
+
+  -- and these are its writes
+  pub plan-writes : takenWrites a (r .list) (r .next) (r .at) (r .grains) (r .keep) (r .«rest_list») (r .head) (r .place) ≡ madeBy a r .writes
+  plan-writes = refl

@@ -1,0 +1,31 @@
+// A planned take, carried out: the writes of its plan, in their order, and nothing else.
+ghost use Rattle.occupy.specs.Taken.{Ready, Taken, takenWrites};
+
+// A link that leads nowhere.
+const NONE: u64 = 18446744073709551615;
+
+// The first block of a list leaves it, keeps what the payload at its place needs, and the payload is live; what is left
+// goes to the head of its list.
+pub fn apply_take(
+    a: &mut [u8],
+    lists: &mut [u64],
+    live: &mut [u64],
+    list: usize,
+    next: u64,
+    at: usize,
+    grains: usize,
+    keep: usize,
+    rest: usize,
+    head: u64,
+    place: usize,
+)
+    requires { ⌜ Ready (now a) (now lists) (now live) list next at grains keep rest head place ⌝ }
+    ensures { λ r. ⌜ Taken (now (a .entry)) (now (lists .entry)) (now (live .entry))
+        (takenWrites (now (a .entry)) list next at grains keep rest head place)
+        (now (a .exit)) (now (lists .exit)) (now (live .exit)) ⌝ }
+{
+    free_list::unlink(a, lists, list, next, NONE);
+    carve::put_left(a, lists, at, grains, keep, rest, head);
+    carve::put_pad(a, at, place);
+    bits::set_table_bit(live, 2 * at + place);
+}
