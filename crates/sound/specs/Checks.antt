@@ -188,7 +188,7 @@ few-prev : (n h y p : ℕ) → AtMost 0 (seePrev n h y p) 1
 few-prev n h y p = eq-case (λ (t : Script (Unit {0})). AtMost 0 t 1) p none _ _
     (λ _. more 0 (mustEq h y) 0 (few-eq 0 5 h y))
     (λ _. few-then 0 (mustGrain n h) _ 1 (few-le 0 5 _ _) λ _.
-    few-then 0 (mustDiffer h y) _ 1 (few-differ 0 _ _) λ _.
+    few-then 0 (mustDiffer h _) _ 1 (few-differ 0 _ _) λ _.
     few-then 0 (mustGrain n p) _ 1 (few-le 0 5 _ _) λ _ v. few-eq 0 5 v y)
 
 pub few-entry : (n k y : ℕ) → AtMost 0 (seeEntry n k y) 6
