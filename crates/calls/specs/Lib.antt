@@ -1,3 +1,8 @@
 -- The calls as callers make them. Read Bytes first, then Performs, then Promises.
 pub mod Bytes
 pub mod Performs
+pub mod Storable
+pub mod Refines
+pub mod Begins
+pub mod Runs
+pub mod One
