@@ -4,5 +4,7 @@ pub mod Performs
 pub mod Storable
 pub mod Refines
 pub mod Begins
+pub mod Untouched
 pub mod Runs
 pub mod One
+pub mod Conditions

@@ -8,7 +8,7 @@ use mathlib.Core.Logic.{inl, inr}
 use lib.ListN.{length}
 use Rattle.table.specs.Table.{entry}
 use Rattle.definition.specs.Blocks.{used, last, total}
-use Rattle.definition.specs.Calls.{Heap, notLive, Answer, refused, giveBack}
+use Rattle.definition.specs.Calls.{Heap, Answer}
 use Rattle.invariants.specs.Order.{BlockAt, at-end, at-whole, out}
 use Rattle.invariants.specs.InPiece.{in-piece}
 use Rattle.invariants.specs.NotLive.{NotLive, not-live-back}
@@ -24,7 +24,7 @@ use Rattle.slices.specs.Kept.{stores-lengths}
 use Rattle.slices.specs.Stored.{sound-stored}
 use Rattle.request.specs.Alignment.{multiple-align}
 use Rattle.calls.specs.Bytes.{ByteCall, allocate, deallocate, insert, append, Wrong, Asks, take, back, give, follow, adrift, bytes, inBytes}
-use Rattle.calls.specs.Performs.{Long, Inside, grainsOf, mostOf, outcome, Performs, Defines, Stand}
+use Rattle.calls.specs.Performs.{Long, Inside, grainsOf, mostOf, outcome, Early, short, wrong, outside, Performs, early, refused, granted, Defines, Stand}
 use Rattle.calls.specs.Storable.{Sized, AllLong, outcome-stored}
 
 -- the table has room for the regions of a call
@@ -50,7 +50,7 @@ asks-aligned k K (follow e) = tt
 asks-aligned k K (adrift e) = tt
 
 -- and fair where the table has room
-asks-fair : (S : Slices) (k : ByteCall) (K : Call) → Spare S k → Asks k K → Fair (memoryOf 8 S) (mostOf S) K
+pub asks-fair : (S : Slices) (k : ByteCall) (K : Call) → Spare S k → Asks k K → Fair (memoryOf 8 S) (mostOf S) K
 asks-fair S k K f (take {a = a} r) = multiple-align a (r .alignment .power)
 asks-fair S k K f (back s) = tt
 asks-fair S k K f give = rw (memory-table 8 S 0) f
@@ -115,10 +115,14 @@ module _ (S : Slices) (z : Sized S) (l : AllLong S) (h : Heap) (o : Stand S h) (
           (subst (λ (r : Result Plan). Sound (grainsOf S) 12 (written (memoryOf 8 S) r) (left h answer)) e (agrees .1)));
     }
 
+  -- refused early
+  refined-early : (i : ℕ) → Early S k i → Refined h k (not i) S
+  refined-early i (short n) = absurd (n (long-each S k l))
+  refined-early i (Early.wrong j g w) = record { heap = h; defined = Defines.wrong i w; stands = o }
+  refined-early i (outside K g a f) = refined-outside S h k K o a f
+
   -- T4: every call does what the definition says
   pub performs-refines : (r : Reply) (T : Slices) → Performs S k r T → Refined h k r T
-  performs-refines r T (Performs.short n) = absurd (n (long-each S k l))
-  performs-refines r T (Performs.wrong i g w) = record { heap = h; defined = Defines.wrong i w; stands = o }
-  performs-refines r T (Performs.outside K g a f) = refined-outside S h k K o a f
-  performs-refines r T (Performs.refused K i g a f e) = refined-no K a i e
-  performs-refines r T (Performs.granted K p g a f e) = refined-ok K a p e
+  performs-refines r T (early i e) = refined-early i e
+  performs-refines r T (refused K i g e) = refined-no K (g .asks) i e
+  performs-refines r T (granted K p g e) = refined-ok K (g .asks) p e

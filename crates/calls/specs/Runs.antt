@@ -19,7 +19,7 @@ use Rattle.slices.specs.Slices.{Slices, memoryOf, memory-table, stores}
 use Rattle.slices.specs.Kept.{Lengths, stores-lengths}
 use Rattle.slices.specs.Stored.{stores-are}
 use Rattle.calls.specs.Bytes.{ByteCall, allocate, deallocate, insert, append, Wrong, Asks, take, back, give, follow, adrift, bytes, inBytes}
-use Rattle.calls.specs.Performs.{Long, Inside, grainsOf, mostOf, outcome, Performs, Defines, Stand}
+use Rattle.calls.specs.Performs.{grainsOf, mostOf, Performs, early, refused, granted, Defines, Stand}
 use Rattle.calls.specs.Storable.{Sized, AllLong, outcome-stored}
 use Rattle.calls.specs.Begins.{Begun, begun-lengths, begun-count, begun-stands}
 use Rattle.calls.specs.Refines.{Spare, asks-aligned, Refined, performs-refines}
@@ -51,11 +51,9 @@ regionsIn (k ∷ l) = regionsOf k + regionsIn l
 
 -- all lengths
 pub performs-lengths : (S : Slices) (k : ByteCall) (r : Reply) (T : Slices) → Performs S k r T → Lengths S T
-performs-lengths S k r T (Performs.short n) = record { arena = refl; lists = refl; live = refl; regions = refl }
-performs-lengths S k r T (Performs.wrong i g w) = record { arena = refl; lists = refl; live = refl; regions = refl }
-performs-lengths S k r T (Performs.outside K g a f) = record { arena = refl; lists = refl; live = refl; regions = refl }
-performs-lengths S k r T (Performs.refused K i g a f e) = record { arena = refl; lists = refl; live = refl; regions = refl }
-performs-lengths S k r T (Performs.granted K p g a f e) = stores-lengths 8 S (p .writes)
+performs-lengths S k r T (early i e) = record { arena = refl; lists = refl; live = refl; regions = refl }
+performs-lengths S k r T (refused K i g e) = record { arena = refl; lists = refl; live = refl; regions = refl }
+performs-lengths S k r T (granted K p g e) = stores-lengths 8 S (p .writes)
 
 -- so tables that were long enough are
 keeps-sized : {S T : Slices} → Lengths S T → Sized S → Sized T
@@ -75,16 +73,14 @@ asks-regions k K (adrift e) = refl
 -- and the table counts at most these more
 performs-count : (S : Slices) (k : ByteCall) (r : Reply) (T : Slices) → Sized S → AllLong S → Performs S k r T
     → entry (T .regions) 0 ≤ entry (S .regions) 0 + regionsOf k
-performs-count S k r T z l (Performs.short n) = omega arith
-performs-count S k r T z l (Performs.wrong i g w) = omega arith
-performs-count S k r T z l (Performs.outside K g a f) = omega arith
-performs-count S k r T z l (Performs.refused K i g a f e) = omega arith
-performs-count S k r T z l (Performs.granted K p g a f e) =
-    let v = outcome-stored S z l K p (asks-aligned k K a) e in
+performs-count S k r T z l (early i e) = omega arith
+performs-count S k r T z l (refused K i g e) = omega arith
+performs-count S k r T z l (granted K p g e) =
+    let v = outcome-stored S z l K p (asks-aligned k K (g .asks)) e in
     omega (
       arith,
       granted-table (grainsOf S) 12 (mostOf S) (memoryOf 8 S) K p e,
-      asks-regions k K a,
+      asks-regions k K (g .asks),
       memory-table 8 S 0,
       memory-table 8 (stores 8 S (p .writes)) 0,
       stores-are 8 S (p .writes) (wide-8 (S .arena) (z .arena)) v Table 0,
