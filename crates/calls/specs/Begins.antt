@@ -40,4 +40,4 @@ module _ (S T : Slices) (l : AllLong S) (b : Begun S T) where
 
   -- the slices stand for the empty heap
   pub begun-stands : Sized S → Stand T (empty (grainsOf T))
-  begun-stands z = init-sound T (S .lists) (S .live) (S .regions) (rw (b .arena) (z .arena)) (l .tables .heads) (l .some) (b .tables)
+  begun-stands z = init-sound T (S .lists) (S .live) (S .regions) (rw (b .arena) z) (l .tables .heads) (l .some) (b .tables)

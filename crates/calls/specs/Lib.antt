@@ -8,3 +8,5 @@ pub mod Untouched
 pub mod Runs
 pub mod One
 pub mod Conditions
+pub mod Damage
+pub mod Promises

@@ -111,7 +111,7 @@ module _ (S : Slices) (z : Sized S) (l : AllLong S) (h : Heap) (o : Stand S h) (
       heap = left h answer;
       defined = subst (λ (r : Reply). Defines h k r (left h answer)) (ap (inBytes k) (sym (agrees .0) ∙ ap reply e)) (Defines.asked K a);
       stands = subst (λ (n : ℕ). Sound n 12 (memoryOf 8 (stores 8 S (p .writes))) (left h answer)) (sym (stored-grains S (p .writes)))
-          (sound-stored (grainsOf S) 12 8 S (p .writes) (left h answer) (wide-8 (S .arena) (z .arena)) (outcome-stored S z l K p (asks-aligned k K a) e)
+          (sound-stored (grainsOf S) 12 8 S (p .writes) (left h answer) (wide-8 (S .arena) z) (outcome-stored S z l K p (asks-aligned k K a) e)
           (subst (λ (r : Result Plan). Sound (grainsOf S) 12 (written (memoryOf 8 S) r) (left h answer)) e (agrees .1)));
     }
 

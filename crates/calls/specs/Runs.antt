@@ -57,10 +57,10 @@ performs-lengths S k r T (granted K p g e) = stores-lengths 8 S (p .writes)
 
 -- so tables that were long enough are
 keeps-sized : {S T : Slices} → Lengths S T → Sized S → Sized T
-keeps-sized e z = record { arena = rw (e .arena) (z .arena); regions = rw (e .regions) (z .regions) }
+keeps-sized e z = rw (e .arena) z
 
 keeps-long : {S T : Slices} → Lengths S T → AllLong S → AllLong T
-keeps-long e l = record { tables = rw (e .arena, e .lists, e .live) (l .tables); some = rw (e .regions) (l .some) }
+keeps-long e l = record { tables = rw (e .arena, e .lists, e .live) (l .tables); some = rw (e .regions) (l .some); most = rw (e .regions) (l .most) }
 
 -- a call asks for as many regions as its grains do
 asks-regions : (k : ByteCall) (K : Call) → Asks k K → regionsAsked K ≡ regionsOf k
@@ -83,7 +83,7 @@ performs-count S k r T z l (granted K p g e) =
       asks-regions k K (g .asks),
       memory-table 8 S 0,
       memory-table 8 (stores 8 S (p .writes)) 0,
-      stores-are 8 S (p .writes) (wide-8 (S .arena) (z .arena)) v Table 0,
+      stores-are 8 S (p .writes) (wide-8 (S .arena) z) v Table 0,
     )
 
 -- ---- T5

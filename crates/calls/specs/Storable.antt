@@ -23,15 +23,15 @@ use Rattle.sound.specs.Calls.{Call, Take, Return, Resize, Give, Append}
 use Rattle.sound.specs.Runs.{Aligned}
 use Rattle.calls.specs.Performs.{grainsOf, mostOf, outcome}
 
--- lengths that a machine of 64 bits has
-pub record Sized (S : Slices) : Type 0 where
-  pub arena : length (S .arena) < 2 ^ 64
-  pub regions : length (S .regions) < 2 ^ 64
+-- an arena that a machine of 64 bits has
+abbrev pub Sized : Slices → Type 0
+Sized S = length (S .arena) < 2 ^ 64
 
--- all tables are long enough
+-- all tables are long enough, and none is longer than the machine has bytes
 pub record AllLong (S : Slices) : Type 0 where
   pub tables : LongEnough (length (S .arena)) (length (S .lists)) (length (S .live))
   pub some : 1 ≤ length (S .regions)
+  pub most : length (S .regions) < 2 ^ 64
 
 module _ (S : Slices) (z : Sized S) (l : AllLong S) where
   -- what a plan for the arena writes
@@ -46,8 +46,8 @@ module _ (S : Slices) (z : Sized S) (l : AllLong S) where
       subst (λ (u : Plan). AllValid 8 S (u .writes)) (sym (r .plan))
       (all-valid-append 8 S (r .w .writes) _
       (writable-stored (r .w .writes) (region-writable (grainsOf S) 12 (omega arith) (mostOf S) behind g len (memoryOf 8 S) p r)) (
-        (omega (arith, r .spare), omega (arith, r .inside, few, z .arena)),
-        ((omega (arith, r .spare), omega (arith, r .inside, few, z .arena)), ((omega (arith, l .some), omega (arith, r .spare, z .regions)), tt)),
+        (omega (arith, r .spare), omega (arith, r .inside, few, z)),
+        ((omega (arith, r .spare), omega (arith, r .inside, few, z)), ((omega (arith, l .some), omega (arith, r .spare, l .most)), tt)),
       ))
 
   -- every call
