@@ -13,23 +13,14 @@ ghost use Rattle.free_list.specs.Lent.{Room, Leads};
 ghost use Rattle.allocate.specs.First.{IsFirst, IsBounded, Lost, SeenFirst};
 ghost use Rattle.allocate.specs.Rest.{SeenRest};
 ghost use Rattle.allocate.specs.Plan.{InRange, Refuses, Cuts, Plans};
+use bits::LISTS;
+use bits::MAP_WORDS;
+use header::BEFORE;
+use header::NEXT;
+use header::NONE;
+use header::PREV;
 
-// The words of a header.
-const BEFORE: usize = 1;
-
-const NEXT: usize = 2;
-
-const PREV: usize = 3;
-
-// A link that leads nowhere.
-const NONE: u64 = 18446744073709551615;
-
-// The words of the map, behind which the heads stand.
-const MAP_WORDS: usize = 3;
-
-// How many lists there are, and the least size in grains that has none.
-const LISTS: usize = 192;
-
+// The least size in grains that has no list.
 const LARGE: usize = 4096;
 
 // The refusals: no list has a block; the records contradict each other.

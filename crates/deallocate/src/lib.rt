@@ -10,17 +10,10 @@ ghost use Rattle.free_list.specs.Written.{Written};
 ghost use Rattle.deallocate.specs.After.{relinked, headed};
 ghost use Rattle.deallocate.specs.Shown.{leavingOf, bothLeaving, backWrites, Known, Able, Planned, BackPlanned, mergeScript, listed};
 ghost use Rattle.deallocate.specs.Written.{freed, Returned};
-
-// The fields of a header that say how large a block is, and which block is before.
-const SIZE: usize = 0;
-
-const BEFORE: usize = 1;
-
-// A link that leads nowhere.
-const NONE: u64 = 18446744073709551615;
-
-// How many lists there are.
-const LISTS: usize = 192;
+use bits::LISTS;
+use header::BEFORE;
+use header::NONE;
+use header::SIZE;
 
 // The records contradict each other.
 const DAMAGED: u64 = 5;

@@ -1,8 +1,6 @@
 // A planned take, carried out: the writes of its plan, in their order, and nothing else.
 ghost use Rattle.occupy.specs.Taken.{Ready, Taken, takenWrites};
-
-// A link that leads nowhere.
-const NONE: u64 = 18446744073709551615;
+use header::NONE;
 
 // The first block of a list leaves it, keeps what the payload at its place needs, and the payload is live; what is left
 // goes to the head of its list.
