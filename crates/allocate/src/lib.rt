@@ -2,14 +2,12 @@
 // of the lists are lent. Links are words: the bytes of a grain, or none.
 ghost use mathlib.Core.Path.{_≡_};
 ghost use Prim.Native.Nat.{_+_, _≤_, _<_};
-ghost use lib.ListN.{length as lengthOf};
 ghost use Rattle.choice.specs.Says.{Says};
 ghost use Rattle.choice.specs.Choice.{ifEq};
-ghost use Rattle.bits.specs.Map.{mapWords, lists as listCount};
 ghost use Rattle.class.specs.Class.{listOf};
 ghost use Rattle.definition.specs.Calls.{wanted as wantedOf};
 ghost use Rattle.slices.specs.Decode.{grains as grainsOf};
-ghost use Rattle.free_list.specs.Lent.{Room, Leads};
+ghost use Rattle.free_list.specs.Lent.{Long, Room, Leads};
 ghost use Rattle.allocate.specs.First.{IsFirst, IsBounded, Lost, SeenFirst};
 ghost use Rattle.allocate.specs.Rest.{SeenRest};
 ghost use Rattle.allocate.specs.Plan.{InRange, Refuses, Cuts, Plans};
@@ -61,7 +59,7 @@ struct Rest {
 
 // A payload of some half grains at a multiple of others.
 pub fn plan_take(a: &[u8], lists: &[u64], length: usize, multiple: usize) -> Plan
-    requires { ⌜ InRange length multiple × (mapWords + listCount ≤ lengthOf (now lists)) ⌝ }
+    requires { ⌜ InRange length multiple × Long (now lists) ⌝ }
     ensures { λ r. ⌜ Plans (now (a .entry)) (now (lists .entry)) length multiple r ⌝ }
 {
     let wanted = (length + multiple + 1) / 2;
