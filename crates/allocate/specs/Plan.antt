@@ -5,7 +5,6 @@ use native.Mathlib.Omega.{arith}
 use mathlib.Core.Path.{_≡_, refl, ap, sym, _∙_, subst}
 use mathlib.Core.Bool.{Bool, true, false}
 use mathlib.Core.List.{List, [], _∷_, _++_}
-use Rattle.align.specs.Align.{Power}
 use Rattle.bits.specs.First.{firstSet, first-from, first-agree}
 use Rattle.bits.specs.Map.{lists, mapBit}
 use Rattle.class.specs.Class.{startOf, floor, floor-at, floor-lt, floor-order, start-enough, start-fits}
@@ -25,12 +24,6 @@ use Rattle.allocate.specs.declared.First.{First}
 use Rattle.allocate.specs.declared.Rest.{Rest}
 use Rattle.allocate.specs.First.{firstThen, after, SeenFirst}
 use Rattle.allocate.specs.Rest.{leftWrites, SeenRest}
-
--- p half grains at a multiple of u
-pub record InRange (p u : ℕ) : Type 0 where
-  pub power : Power u
-  pub most : u ≤ 256
-  pub fits : p + u + 1 < 2 ^ 64
 
 -- ---- what a plan says
 

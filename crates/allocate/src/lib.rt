@@ -8,9 +8,10 @@ ghost use Rattle.class.specs.Class.{listOf};
 ghost use Rattle.definition.specs.Calls.{wanted as wantedOf};
 ghost use Rattle.slices.specs.Decode.{grains as grainsOf};
 ghost use Rattle.free_list.specs.Lent.{Long, Room, Leads};
+ghost use Rattle.allocate.specs.Demand.{Demand};
 ghost use Rattle.allocate.specs.First.{IsFirst, IsBounded, Lost, SeenFirst};
 ghost use Rattle.allocate.specs.Rest.{SeenRest};
-ghost use Rattle.allocate.specs.Plan.{InRange, Refuses, Cuts, Plans};
+ghost use Rattle.allocate.specs.Plan.{Refuses, Cuts, Plans};
 use bits::LISTS;
 use bits::MAP_WORDS;
 use header::BEFORE;
@@ -59,7 +60,7 @@ struct Rest {
 
 // A payload of some half grains at a multiple of others.
 pub fn plan_take(a: &[u8], lists: &[u64], length: usize, multiple: usize) -> Plan
-    requires { ⌜ InRange length multiple × Long (now lists) ⌝ }
+    requires { ⌜ Demand length multiple × Long (now lists) ⌝ }
     ensures { λ r. ⌜ Plans (now (a .entry)) (now (lists .entry)) length multiple r ⌝ }
 {
     let wanted = (length + multiple + 1) / 2;
@@ -97,7 +98,7 @@ fn cut(
     length: usize,
     multiple: usize,
 ) -> Plan
-    requires { ⌜ InRange length multiple × Room list (now lists) × (at + grains < grainsOf 8 (now a)) × (listOf grains ≡ list) × (wantedOf length multiple ≤ grains) × Leads (now a) next ⌝ }
+    requires { ⌜ Demand length multiple × Room list (now lists) × (at + grains < grainsOf 8 (now a)) × (listOf grains ≡ list) × (wantedOf length multiple ≤ grains) × Leads (now a) next ⌝ }
     ensures { λ r. ⌜ Cuts (now (a .entry)) (now (lists .entry)) list at grains next length multiple r ⌝ }
 {
     let place = request::place_of(multiple, at);
