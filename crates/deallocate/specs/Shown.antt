@@ -11,8 +11,8 @@ use Rattle.sound.specs.Checks.{seeBehind, seeBefore}
 use Rattle.sound.specs.Links.{pushWrites}
 use Rattle.sound.specs.Plans.{Plan, roomOf, bothLeave, freeWrites, joinScript, giveBackScript}
 use Rattle.slices.specs.Decode.{grains}
-use Rattle.free_list.specs.Lent.{link, Leads}
-use Rattle.neighbours.specs.Shown.{classes, held, unless}
+use Rattle.free_list.specs.Lent.{held, classes, link, Leads}
+use Rattle.free_list.specs.Answers.{unless}
 use Rattle.deallocate.specs.declared.Neighbour.{Neighbour}
 use Rattle.deallocate.specs.declared.Plan.{Plan as PlanAnswer}
 use Rattle.deallocate.specs.After.{leaving}
