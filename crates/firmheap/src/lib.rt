@@ -1,6 +1,12 @@
 // The heap's calls. The caller lends the arena and its tables; whatever is in them and whatever the numbers are, each call
 // returns, stays inside the slices, and does its work or refuses with a number; a refusal changes nothing. What is promised
 // of each is one record, in crates/calls/specs/Promises.antt.
+ghost use Prim.Native.Nat.{_+_, _≤_};
+ghost use lib.ListN.{length as lengthOf};
+ghost use Rattle.tables.specs.Length.{LongEnough};
+ghost use Rattle.allocate.specs.Demand.{Demand};
+ghost use Rattle.firmheap.specs.Replies.{taken, done};
+ghost use Rattle.firmheap.specs.Contracts.{Allocates, Deallocates, Takes, GivesBack, Initialises};
 
 // The bytes of half a grain, in which payloads are counted.
 const HALF: usize = 16;
@@ -34,6 +40,8 @@ pub fn allocate(
     size: usize,
     align: usize,
 ) -> Taken
+    ensures { λ r. ⌜ Allocates (now (arena .entry)) (now (lists .entry)) (now (live .entry)) size align (taken r)
+        (now (arena .exit)) (now (lists .exit)) (now (live .exit)) ⌝ }
 {
     if !tables::long_enough(arena.len(), lists.len(), live.len()) {
         return Taken::Refused(TOO_SHORT);
@@ -53,6 +61,9 @@ fn take(
     length: usize,
     multiple: usize,
 ) -> Taken
+    requires { ⌜ Demand length multiple × LongEnough (lengthOf (now arena)) (lengthOf (now lists)) (lengthOf (now live)) ⌝ }
+    ensures { λ r. ⌜ Takes (now (arena .entry)) (now (lists .entry)) (now (live .entry)) length multiple (taken r)
+        (now (arena .exit)) (now (lists .exit)) (now (live .exit)) ⌝ }
 {
     let p = allocate::plan_take(arena, lists, length, multiple);
     if p.refusal != 0 {
@@ -84,6 +95,8 @@ pub fn deallocate(
     payload: usize,
     align: usize,
 ) -> Done
+    ensures { λ r. ⌜ Deallocates (now (arena .entry)) (now (lists .entry)) (now (live .entry)) payload align (done r)
+        (now (arena .exit)) (now (lists .exit)) (now (live .exit)) ⌝ }
 {
     if !tables::long_enough(arena.len(), lists.len(), live.len()) {
         return Done::Refused(TOO_SHORT);
@@ -97,6 +110,9 @@ pub fn deallocate(
 
 // The payload at q, counted in half grains.
 fn give_back(arena: &mut [u8], lists: &mut [u64], live: &mut [u64], q: usize) -> Done
+    requires { ⌜ LongEnough (lengthOf (now arena)) (lengthOf (now lists)) (lengthOf (now live)) ⌝ }
+    ensures { λ r. ⌜ GivesBack (now (arena .entry)) (now (lists .entry)) (now (live .entry)) q (done r)
+        (now (arena .exit)) (now (lists .exit)) (now (live .exit)) ⌝ }
 {
     if header::count(arena) <= q / 2 {
         return Done::Refused(NOT_LIVE);
@@ -113,6 +129,8 @@ fn give_back(arena: &mut [u8], lists: &mut [u64], live: &mut [u64], q: usize) ->
 
 // Makes the lent tables those of a heap to which nothing was given.
 pub fn init(arena: &[u8], lists: &mut [u64], live: &mut [u64], regions: &mut [u64]) -> Done
+    ensures { λ r. ⌜ Initialises (now (arena .entry)) (now (lists .entry)) (now (live .entry)) (now (regions .entry)) (done r)
+        (now (lists .exit)) (now (live .exit)) (now (regions .exit)) ⌝ }
 {
     if !tables::long_enough(arena.len(), lists.len(), live.len()) {
         return Done::Refused(TOO_SHORT);
