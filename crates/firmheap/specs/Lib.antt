@@ -5,3 +5,4 @@ pub mod Contracts
 pub mod Take
 pub mod Return
 pub mod Begin
+pub mod Give
