@@ -68,7 +68,7 @@ fn plan_one(a: &[u8], lists: &[u64], g: usize, len: usize) -> Plan
     requires { ⌜ Long (now lists) × (g + len ≤ grains 8 (now a)) × (2 ≤ len) × (len < 4096) ⌝ }
     ensures { λ r. ⌜ LayoutPlanned (now (a .entry)) (now (lists .entry)) g len r ⌝ }
 {
-    let h = free_list::see_head(a, lists, list_of(len - 1));
+    let h = free_list::see_head(a, lists, list_of(len));
     if !h.ok {
         return refused(DAMAGED);
     }
@@ -88,13 +88,14 @@ fn plan_row(a: &[u8], lists: &[u64], g: usize, len: usize) -> Plan
     requires { ⌜ Long (now lists) × (g + len ≤ grains 8 (now a)) × (4096 ≤ len) ⌝ }
     ensures { λ r. ⌜ LayoutPlanned (now (a .entry)) (now (lists .entry)) g len r ⌝ }
 {
-    let h = free_list::see_head(a, lists, list_of(PIECE - 1));
+    let h = free_list::see_head(a, lists, list_of(PIECE));
     if !h.ok {
         return refused(DAMAGED);
     }
     let full = len / PIECE;
     let rest = len % PIECE;
     if rest < 2 {
+        let used = len - rest;
         return Plan {
             refusal: 0,
             at: g,
@@ -102,10 +103,10 @@ fn plan_row(a: &[u8], lists: &[u64], g: usize, len: usize) -> Plan
             head: h.word,
             rest: 0,
             rest_head: NONE,
-            used: len - rest,
+            used,
         };
     }
-    let last = see_last(a, lists, g, full, h.word, rest - 1);
+    let last = see_last(a, lists, g, full, h.word, rest);
     if !last.ok {
         return refused(DAMAGED);
     }
@@ -135,24 +136,24 @@ fn refused(why: usize) -> Plan
     }
 }
 
-// The list of a free block of s grains.
-fn list_of(s: usize) -> usize
-    requires { ⌜ (1 ≤ s) × (s ≤ 4095) ⌝ }
-    ensures { λ r. ⌜ (r ≡ listOf s) × (r < listCount) ⌝ }
+// The list of the block of a piece of m grains, of which its sentinel has one.
+fn list_of(m: usize) -> usize
+    requires { ⌜ (2 ≤ m) × (m ≤ 4096) ⌝ }
+    ensures { λ r. ⌜ (r ≡ listOf (m - 1)) × (r < listCount) ⌝ }
 {
-    class::map_floor(s as u64) as usize
+    class::map_floor(m as u64 - 1) as usize
 }
 
 // ---- the head that the last piece is put before
 
-// The head of the list of s grains, as the pieces of full length from g on will leave it, which are put before h.
-fn see_last(a: &[u8], lists: &[u64], g: usize, full: usize, h: u64, s: usize) -> free_list::Head
-    requires { ⌜ Long (now lists) × Row (now a) (now lists) g full h × (1 ≤ s) × (s ≤ 4095) ⌝ }
-    ensures { λ r. ⌜ SeenLast (now (a .entry)) (now (lists .entry)) g full h (listOf s) r ⌝ }
+// The head of the list of a piece of m grains, as the pieces of full length from g on will leave it, which are put before h.
+fn see_last(a: &[u8], lists: &[u64], g: usize, full: usize, h: u64, m: usize) -> free_list::Head
+    requires { ⌜ Long (now lists) × Row (now a) (now lists) g full h × (2 ≤ m) × (m ≤ 4096) ⌝ }
+    ensures { λ r. ⌜ SeenLast (now (a .entry)) (now (lists .entry)) g full h (listOf (m - 1)) r ⌝ }
 {
-    let k = list_of(s);
+    let k = list_of(m);
     let last = header::bytes_of(g + PIECE * (full - 1));
-    if k == list_of(PIECE - 1) {
+    if k == list_of(PIECE) {
         return free_list::Head {
             ok: true,
             word: last,
@@ -161,7 +162,7 @@ fn see_last(a: &[u8], lists: &[u64], g: usize, full: usize, h: u64, s: usize) ->
     see_other(a, lists, g, full, h, k, last)
 }
 
-// The same of list k, which is not theirs. The last of them has nothing before it, whatever else is its head.
+// The same of list k, which is another than theirs; `last` is the word of the last of them, which will have nothing before it.
 fn see_other(
     a: &[u8],
     lists: &[u64],
@@ -185,8 +186,7 @@ fn see_other(
     free_list::see_head(a, lists, k)
 }
 
-// Whether a piece will be put before the grain of this word, which is the head h or the start of a piece; the start of the
-// last piece counts too.
+// Whether the word leads to the head h or to the start of a piece: all but the last piece will get another before them.
 fn is_joined(word: u64, g: usize, full: usize, h: u64) -> bool
     requires { ⌜ g + 4096 * full < 576460752303423488 ⌝ }
     ensures { λ r. ⌜ Says (Joined g full h word) r ⌝ }

@@ -5,9 +5,6 @@ use Rattle.give.specs.Planned.{seen-as, one-refused, one-planned}
 use Rattle.give.proofs.plan_one.Statement.{statement}
 use Rattle.give.proofs.plan_one.Tie as tie
 
-sub-list-of : tie.Need-sub-list-of
-sub-list-of c = search needs
-
 list-of-requires : tie.Need-list-of-requires
 list-of-requires c κs = search needs
 
@@ -32,4 +29,4 @@ returns-2 c =
     (d .see-head .result) (seen-as (s .args .a .now) (s .args .lists .now) (d .before .list-of .ensures .0) (d .see-head .result) (d .see-head .ensures)) (not-false _ (c .if1 .left))
 
 pub plan-one-spec : {M : Type 1} → statement M
-plan-one-spec = tie.close (tie.spec sub-list-of list-of-requires see-head-requires refused-requires returns returns-2)
+plan-one-spec = tie.close (tie.spec list-of-requires see-head-requires refused-requires returns returns-2)

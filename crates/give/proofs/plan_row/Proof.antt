@@ -14,9 +14,6 @@ use Rattle.give.proofs.plan_row.Tie as tie
 seen : (c : tie.After-see-head) → let s = c .before .before .before .before .args in SeenHead (s .a .now) (s .lists .now) (listOf 4095) (c .see-head .result)
 seen c = let s = c .before .before .before .before .args in seen-as (s .a .now) (s .lists .now) (c .before .list-of .ensures .0) (c .see-head .result) (c .see-head .ensures)
 
-sub-list-of : tie.Need-sub-list-of
-sub-list-of c = search needs
-
 list-of-requires : tie.Need-list-of-requires
 list-of-requires c κs = search needs
 
@@ -33,8 +30,8 @@ returns c =
     row-refused (s .args .a .now) (s .args .lists .now) (s .args .g) (s .args .len) (s .good .0 .0) (s .pre .0) (s .pre .1) (s .pre .2)
     (d .see-head .result) (seen d) (not-true _ (c .before .if1 .taken)) (c .refused .result) (c .refused .ensures)
 
-sub-t12 : tie.Need-sub-t12
-sub-t12 c = search needs
+sub-used : tie.Need-sub-used
+sub-used c = search needs
 
 returns-2 : tie.Need-returns-2
 returns-2 c =
@@ -42,9 +39,6 @@ returns-2 c =
     let s = d .before .before .before .before in
     row-planned (s .args .a .now) (s .args .lists .now) (s .args .g) (s .args .len) (s .good .0 .0) (s .pre .0) (s .pre .1) (s .pre .2)
     (d .see-head .result) (seen d) (not-false _ (c .before .if1 .left)) _ _ (omega arith) (omega arith)
-
-sub-see-last : tie.Need-sub-see-last
-sub-see-last c = search needs
 
 see-last-requires : tie.Need-see-last-requires
 see-last-requires c κs =
@@ -82,14 +76,12 @@ pub plan-row-spec : {M : Type 1} → statement M
 plan-row-spec =
     tie.close
     (tie.spec
-    sub-list-of
     list-of-requires
     see-head-requires
     refused-requires
     returns
-    sub-t12
+    sub-used
     returns-2
-    sub-see-last
     see-last-requires
     refused-requires-2
     returns-3

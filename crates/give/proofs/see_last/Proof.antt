@@ -29,9 +29,6 @@ bytes-of-requires c κs =
     let s = c .before .before .before in
     omega (arith, s .pre .1 .inside, s .pre .1 .some, grains-few (s .args .a .now) (s .good .0 .0))
 
-sub-list-of : tie.Need-sub-list-of
-sub-list-of c = search needs
-
 list-of-requires-2 : tie.Need-list-of-requires-2
 list-of-requires-2 c κs = search needs
 
@@ -65,7 +62,6 @@ see-last-spec =
     mul-bytes-of
     add-bytes-of
     bytes-of-requires
-    sub-list-of
     list-of-requires-2
     returns
     see-other-requires
