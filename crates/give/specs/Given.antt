@@ -6,7 +6,7 @@ use lib.ListN.{length}
 use Rattle.choice.specs.Choice.{eq-yes, eq-no}
 use Rattle.table.specs.Table.{entry}
 use Rattle.script.specs.Memory.{Write}
-use Rattle.sound.specs.RegionPlan.{pieceWrites}
+use Rattle.sound.specs.RegionPlan.{pieceWrites, entryWrites}
 use Rattle.slices.specs.Decode.{grains-keep}
 use Rattle.slices.specs.Slices.{Slices, stores}
 use Rattle.slices.specs.Kept.{stores-append, stores-lengths}
@@ -15,7 +15,7 @@ use Rattle.free_list.specs.Written.{Written, written-none, written-then, writte
 use Rattle.region.specs.Pieces.{fullWrites}
 use Rattle.region.specs.Entered.{withRegion, region-stored}
 use Rattle.give.specs.declared.Plan.{Plan as PlanAnswer}
-use Rattle.give.specs.Shown.{LastAble, lastWrites, tableWrites, layoutWrites, givenWrites}
+use Rattle.give.specs.Shown.{LastAble, lastWrites, layoutWrites, givenWrites}
 
 -- the slices into which the writes w were stored; the live bits stay, whatever they are
 pub record Given (a l t : List ℕ) (w : List Write) (b m o : List ℕ) : Type 0 where
@@ -64,7 +64,7 @@ given a l t r b m c o u full last table = record {
         (written-as (ap (lastWrites (r .at + 4096 * r .full) (r .rest)) (sym (link-keep a b (r .«rest_head») (written-length {w = row} full)))) last)
 
     new : List Write
-    new = tableWrites (entry t 0) (r .at) (r .at + r .used)
+    new = entryWrites (entry t 0) (r .at) (r .at + r .used)
 
     all : (v : List ℕ) → lent c o v u ≡ stores 8 (lent a l v t) (givenWrites a t r)
     all v =

@@ -8,19 +8,18 @@ use Rattle.class.specs.Class.{listOf}
 use Rattle.script.specs.Memory.{Memory, none, Write, apply}
 use Rattle.script.specs.Script.{ok, no, run, Gives, goes, halts, gives-done}
 use Rattle.sound.specs.Checks.{seeHead}
-use Rattle.sound.specs.RegionPlan.{pieceWrites, layScript}
+use Rattle.sound.specs.RegionPlan.{entryWrites, pieceWrites, layScript}
 use Rattle.region.specs.Admit.{laying}
 use Rattle.region.specs.Layout.{lay-end, lay-more, lay-stop}
 use Rattle.region.specs.Pieces.{fullWrites}
 use Rattle.region.specs.Row.{row-laid}
-use Rattle.give.specs.Shown.{tableWrites}
 
 -- ---- the plan
 
 module _ (m : Memory) (n g len c : ℕ) where
   -- the region laid out by w, with o grains left over
   pub laid-planned : (w : List Write) (o : ℕ) → Gives m (layScript n 12 len [] g len) (record { writes = w; over = o })
-      → run m (laying n 12 g len c) ≡ ok (record { answer = len - o; moved = 0; writes = w ++ tableWrites c g (g + (len - o)) })
+      → run m (laying n 12 g len c) ≡ ok (record { answer = len - o; moved = 0; writes = w ++ entryWrites c g (g + (len - o)) })
   laid-planned w o q = goes m (layScript n 12 len [] g len) _ q ∙ gives-done m _
 
   pub laid-refused : (r : ℕ) → run m (layScript n 12 len [] g len) ≡ no r → run m (laying n 12 g len c) ≡ no r

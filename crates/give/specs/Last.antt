@@ -20,12 +20,11 @@ use Rattle.slices.specs.Slices.{memory-mark}
 use Rattle.header.specs.Turned.{turned, grains-few}
 use Rattle.header.specs.Told.{link-leads, link-only}
 use Rattle.free_list.specs.declared.Head.{Head}
-use Rattle.free_list.specs.Lent.{lent, noLink, link, Leads, below-none, link-none, link-grain, grain-word}
+use Rattle.free_list.specs.Lent.{held, lent, noLink, link, Leads, below-none, link-none, link-grain, grain-word}
 use Rattle.free_list.specs.Seen.{shownHead, SeenHead, head-read}
 use Rattle.free_list.specs.Leading.{head-leads}
 use Rattle.region.specs.Pieces.{headOf, fullWrites}
 use Rattle.region.specs.Row.{row-head}
-use Rattle.give.specs.Shown.{held}
 use Rattle.give.specs.Joined.{Joined}
 use Rattle.give.specs.Behind.{Behind}
 use Rattle.give.specs.HeadBehind.{behind-last, behind-unmarked, behind-second, behind-other}

@@ -16,14 +16,14 @@ use Rattle.sound.specs.Checked.{head-checked}
 use Rattle.sound.specs.RegionPlan.{pieceWrites, layScript}
 use Rattle.slices.specs.Decode.{grains}
 use Rattle.free_list.specs.declared.Head.{Head}
-use Rattle.free_list.specs.Lent.{noLink, link, Leads, below-none}
-use Rattle.free_list.specs.Back.{answer}
+use Rattle.free_list.specs.Lent.{held, Long, noLink, link, Leads, below-none}
+use Rattle.free_list.specs.Answers.{answer}
 use Rattle.free_list.specs.Seen.{SeenHead}
 use Rattle.free_list.specs.Leading.{leads-valid, head-leads}
 use Rattle.region.specs.Layout.{lay-end}
 use Rattle.region.specs.Pieces.{fullWrites, Layable}
 use Rattle.give.specs.declared.Plan.{Plan as PlanAnswer}
-use Rattle.give.specs.Shown.{held, Long, lastWrites, shown-refused, LayoutPlanned}
+use Rattle.give.specs.Shown.{lastWrites, shown-refused, LayoutPlanned}
 use Rattle.give.specs.Last.{Row, SeenLast}
 use Rattle.give.specs.Laid.{laid-planned, laid-refused, piece-refused, last-laid, last-refused, row-behind}
 

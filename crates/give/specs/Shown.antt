@@ -1,31 +1,21 @@
 -- A plan of the code, as the script answers it: the writes, spelled from the plan's numbers; and what makes them possible.
-use Prim.Native.Nat.{ℕ, zero, suc, _+_, _*_, _≤_}
-use mathlib.Core.Path.{_≡_, refl, ap, _∙_}
-use mathlib.Core.List.{List, [], _∷_, _++_}
+use Prim.Native.Nat.{ℕ, _+_, _*_, _≤_}
+use mathlib.Core.Path.{_≡_, ap, _∙_}
+use mathlib.Core.List.{List, [], _++_}
 use lib.ListN.{length}
 use Rattle.choice.specs.Choice.{ifEq}
 use Rattle.table.specs.Table.{entry}
-use Rattle.bits.specs.Map.{mapWords}
-use Rattle.bits.specs.Map.{lists as listCount}
-use Rattle.script.specs.Memory.{Memory, Table, Write, _at_≔_}
+use Rattle.script.specs.Memory.{Write}
 use Rattle.script.specs.Script.{Result, ok, no, run}
 use Rattle.sound.specs.Plans.{Plan}
-use Rattle.sound.specs.RegionPlan.{pieceWrites, regionScript}
+use Rattle.sound.specs.RegionPlan.{pieceWrites, entryWrites, regionScript}
 use Rattle.slices.specs.Decode.{grains}
-use Rattle.slices.specs.Slices.{memoryOf}
-use Rattle.free_list.specs.Lent.{lent, link}
+use Rattle.free_list.specs.Lent.{held, link}
+use Rattle.free_list.specs.Answers.{unless, unless-no, unless-ok}
 use Rattle.region.specs.Admit.{mostOf, laying}
 use Rattle.region.specs.Piece.{Placeable}
 use Rattle.region.specs.Pieces.{fullWrites, Layable}
 use Rattle.give.specs.declared.Plan.{Plan as PlanAnswer}
-
--- the memory of the lent slices
-abbrev pub held : List ℕ → List ℕ → List ℕ → List ℕ → Memory
-held a l v t = memoryOf 8 (lent a l v t)
-
--- the table of the lists has a place for each head
-abbrev pub Long : List ℕ → Type 0
-Long l = mapWords + listCount ≤ length l
 
 -- ---- the writes
 
@@ -37,24 +27,15 @@ lastWrites x m h = ifEq m 0 [] (pieceWrites x m h)
 abbrev pub layoutWrites : List ℕ → PlanAnswer → List Write
 layoutWrites a r = fullWrites (r .at) (link a (r .head)) (r .full) ++ lastWrites (r .at + 4096 * r .full) (r .rest) (link a (r .«rest_head»))
 
--- the region from g to e behind the c regions of the table
-abbrev pub tableWrites : ℕ → ℕ → ℕ → List Write
-tableWrites c g e = (Table at 2 * c + 1 ≔ g) ∷ (Table at 2 * c + 2 ≔ e) ∷ (Table at 0 ≔ suc c) ∷ []
-
 -- the pieces, and the region in the table t
 abbrev pub givenWrites : List ℕ → List ℕ → PlanAnswer → List Write
-givenWrites a t r = layoutWrites a r ++ tableWrites (entry t 0) (r .at) (r .at + r .used)
+givenWrites a t r = layoutWrites a r ++ entryWrites (entry t 0) (r .at) (r .at + r .used)
 
 -- ---- the answer
 
--- refused, unless with 0
-abbrev pub unless : {A : Type 0} → ℕ → A → Result A
-unless zero x = ok x
-unless (suc r) x = no (suc r)
-
 -- what is planned, with c regions in the table
 abbrev pub planOf : List ℕ → ℕ → PlanAnswer → Plan
-planOf a c r = record { answer = r .used; moved = 0; writes = layoutWrites a r ++ tableWrites c (r .at) (r .at + r .used) }
+planOf a c r = record { answer = r .used; moved = 0; writes = layoutWrites a r ++ entryWrites c (r .at) (r .at + r .used) }
 
 abbrev pub shownBehind : List ℕ → ℕ → PlanAnswer → Result Plan
 shownBehind a c r = unless (r .refusal) (planOf a c r)
@@ -66,15 +47,11 @@ shown a t r = shownBehind a (entry t 0) r
 module _ (a : List ℕ) (c : ℕ) (r : PlanAnswer) where
   -- refused with w
   pub shown-refused : (w : ℕ) → r .refusal ≡ w → (w ≡ 0 → ⊥) → shownBehind a c r ≡ no w
-  shown-refused w e n = ap (λ (u : ℕ). unless u (planOf a c r)) e ∙ go w n
-    where
-      go : (w : ℕ) → (w ≡ 0 → ⊥) → unless w (planOf a c r) ≡ no w
-      go zero n = absurd (n refl)
-      go (suc w) n = refl
+  shown-refused w e n = ap (λ (u : ℕ). unless u (planOf a c r)) e ∙ unless-no w (planOf a c r) n
 
   -- not refused
   pub shown-planned : r .refusal ≡ 0 → shownBehind a c r ≡ ok (planOf a c r)
-  shown-planned e = ap (λ (u : ℕ). unless u (planOf a c r)) e
+  shown-planned e = unless-ok (r .refusal) (planOf a c r) e
 
 -- ---- what is asked for writing it
 

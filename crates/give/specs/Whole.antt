@@ -9,10 +9,10 @@ use Rattle.script.specs.Script.{no, run}
 use Rattle.sound.specs.RegionPlan.{regionScript}
 use Rattle.slices.specs.Decode.{grains}
 use Rattle.slices.specs.Slices.{memory-table}
-use Rattle.free_list.specs.Lent.{lent}
+use Rattle.free_list.specs.Lent.{held, lent}
 use Rattle.region.specs.Admit.{mostOf, laying, Goes, Givable, Admitted, Answered}
 use Rattle.give.specs.declared.Plan.{Plan as PlanAnswer}
-use Rattle.give.specs.Shown.{held, shown-refused, LayoutPlanned, RegionPlanned}
+use Rattle.give.specs.Shown.{shown-refused, LayoutPlanned, RegionPlanned}
 
 -- it is admitted
 pub region-givable : (a t : List ℕ) (behind g len w : ℕ) → Answered t behind (grains 8 a) g len w → w ≡ 0 → Givable t (grains 8 a) g len

@@ -7,21 +7,18 @@ ghost use Rattle.choice.specs.Says.{Says};
 ghost use Rattle.class.specs.Class.{listOf};
 ghost use Rattle.bits.specs.Map.{lists as listCount};
 ghost use Rattle.slices.specs.Decode.{grains};
-ghost use Rattle.free_list.specs.Lent.{link};
+ghost use Rattle.free_list.specs.Lent.{Long, link};
 ghost use Rattle.free_list.specs.Written.{Written};
-ghost use Rattle.give.specs.Shown.{Long, lastWrites, givenWrites, Able, LastAble, LayoutPlanned, RegionPlanned};
+ghost use Rattle.give.specs.Shown.{lastWrites, givenWrites, Able, LastAble, LayoutPlanned, RegionPlanned};
 ghost use Rattle.give.specs.Joined.{Joined};
 ghost use Rattle.give.specs.Last.{Row, SeenLast};
 ghost use Rattle.give.specs.Given.{Given};
 
+use bits::MAP_WORDS;
+use header::NONE;
+
 // The grains of a piece that is as long as a piece can be.
 const PIECE: usize = 4096;
-
-// A link that leads nowhere.
-const NONE: u64 = 18446744073709551615;
-
-// The words of the map, behind which the heads stand.
-const MAP_WORDS: usize = 3;
 
 // The records contradict each other.
 const DAMAGED: usize = 5;
