@@ -4,9 +4,9 @@ use mathlib.Core.List.{List}
 use Rattle.sound.specs.Calls.{Take, Return}
 use Rattle.sound.specs.Runs.{Reply}
 use Rattle.free_list.specs.Lent.{lent}
-use Rattle.calls.specs.Bytes.{allocate, deallocate, Asks}
+use Rattle.calls.specs.Bytes.{allocate, deallocate, insert, append, Asks}
 use Rattle.calls.specs.Performs.{Long, Goes, Performs}
-use Rattle.calls.specs.Promises.{Allocated, Deallocated, Initialised}
+use Rattle.calls.specs.Promises.{Promise, Allocated, Deallocated, Initialised}
 
 -- ---- the arena a, the lists l and the live bits v become b, m and o
 
@@ -28,3 +28,11 @@ GivesBack a l v q r b m o = (t : List ℕ) (x al : ℕ) → Asks (deallocate x a
 
 abbrev pub Initialises : List ℕ → List ℕ → List ℕ → List ℕ → Reply → List ℕ → List ℕ → List ℕ → Type 0
 Initialises a l v t r m o u = Initialised (lent a l v t) r (lent a m o u)
+
+-- ---- the arena a, the lists l and the regions t become b, m and u
+
+abbrev pub Inserts : List ℕ → List ℕ → List ℕ → ℕ → ℕ → Reply → List ℕ → List ℕ → List ℕ → Type 0
+Inserts a l t x n r b m u = (v : List ℕ) → Promise (lent a l v t) (insert x n) r (lent b m v u)
+
+abbrev pub Appends : List ℕ → List ℕ → List ℕ → ℕ → ℕ → Reply → List ℕ → List ℕ → List ℕ → Type 0
+Appends a l t x n r b m u = (v : List ℕ) → Promise (lent a l v t) (append x n) r (lent b m v u)

@@ -13,7 +13,6 @@ ghost use Rattle.give.specs.Shown.{lastWrites, givenWrites, Able, LastAb
 ghost use Rattle.give.specs.Joined.{Joined};
 ghost use Rattle.give.specs.Last.{Row, SeenLast};
 ghost use Rattle.give.specs.Given.{Given};
-
 use bits::MAP_WORDS;
 use header::NONE;
 
