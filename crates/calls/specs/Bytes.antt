@@ -1,6 +1,6 @@
 -- The calls as a caller makes them, in bytes; and what each asks for in half grains and grains, or why its numbers are
 -- refused before the heap is looked at.
-use Prim.Native.Nat.{ℕ, _-_, _*_, _/_, _%_, _+_}
+use Prim.Native.Nat.{ℕ, _+_, _-_, _*_, _/_, _%_}
 use mathlib.Core.Path.{_≡_}
 use Rattle.definition.specs.Units.{halves, multiple, firstGrain, wholeGrains}
 use Rattle.sound.specs.Calls.{Call, Take, Return, Give, Append}
