@@ -9,7 +9,11 @@ ghost use Prim.Native.Nat.{_≤_};
 
 const OUT: i32 = 1;
 
-// The refusal of a payload that is not live.
+const ROWS: u64 = 16;
+
+// Refusals: there is no list; the payload is not live.
+const NO_LIST: u64 = 1;
+
 const NOT_LIVE: u64 = 3;
 
 // Where the columns of a line begin.
@@ -73,21 +77,25 @@ fn heading() {
 
 fn ending(s: Score) {
     io::write_all(OUT, b"\n");
-    if s.answers != rows::COUNT as u64 {
-        io::write_all(OUT, b"DIFFERENT. ");
-    } else if s.frees != rows::COUNT as u64 {
+    if is_different(s) {
         io::write_all(OUT, b"DIFFERENT. ");
     }
-    io::write_all(OUT, b"Shown: ");
-    io::print_decimal(OUT, rows::COUNT as u64);
-    io::write_all(OUT, b" calls. Answers as in docs/HEAP.md: ");
+    io::print_decimal(OUT, ROWS);
+    io::write_all(
+        OUT,
+        b" calls, without resizes, which are not there yet. Answers as in docs/HEAP.md: ",
+    );
     io::print_decimal(OUT, s.answers);
     io::write_all(OUT, b". Free blocks as they must be: ");
     io::print_decimal(OUT, s.frees);
-    io::write_all(
-        OUT,
-        b". (Its resizes are left out: there is no resize yet.)\n",
-    );
+    io::write_all(OUT, b".\n");
+}
+
+fn is_different(s: Score) -> bool {
+    if s.answers != ROWS {
+        return true;
+    }
+    s.frees != ROWS
 }
 
 // ---- the calls
@@ -103,8 +111,8 @@ fn run(
 ) -> Score {
     let mut answers: u64 = 0;
     let mut frees: u64 = 0;
-    let mut i = 0;
-    while i < rows::COUNT {
+    let mut i: u64 = 0;
+    while i < ROWS {
         let row = rows::row_at(i);
         let made = row.call;
         let answer = call(arena, lists, live, regions, payloads, made);
@@ -211,10 +219,13 @@ fn refused(refusal: u64) -> Answer {
     }
 }
 
-// 1 where the answer is the row's.
+// 1 where the answer is the row's. What the run refuses it refuses for want of a list.
 fn is_expected(row: rows::Row, a: Answer) -> u64
     ensures { λ r. ⌜ r ≤ 1 ⌝ }
 {
+    if NO_LIST < a.refusal {
+        return 0;
+    }
     if a.value == row.answer {
         return 1;
     }

@@ -2,8 +2,6 @@
 // the document, and so are the free blocks up to the first resize; those behind it were worked out by hand.
 use crate::line;
 
-pub const COUNT: usize = 16;
-
 // A refused call's answer.
 pub const NONE: usize = 18446744073709551615;
 
@@ -30,7 +28,8 @@ pub struct Row {
     pub free: Free,
 }
 
-pub fn row_at(i: usize) -> Row {
+// Row i.
+pub fn row_at(i: u64) -> Row {
     match i {
         0 => made(Call::Give(0, 65536), 65536, one(0, 65504)),
         1 => made(Call::Take(b'A', 100, 8), 16, one(128, 65376)),
