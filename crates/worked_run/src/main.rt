@@ -11,10 +11,8 @@ const OUT: i32 = 1;
 
 const ROWS: u64 = 16;
 
-// Refusals: there is no list; the payload is not live.
+// The refusal where there is no list.
 const NO_LIST: u64 = 1;
-
-const NOT_LIVE: u64 = 3;
 
 // Where the columns of a line begin.
 const ANSWER: usize = 24;
@@ -40,18 +38,9 @@ fn main() {
     let mut lists = [0u64; 195];
     let mut live = [0u64; 65];
     let mut regions = [0u64; 3];
-    let mut payloads = [0usize; 26];
-    let mut text = [0u8; 240];
     heading();
     firmheap::init(&arena, &mut lists, &mut live, &mut regions);
-    let score = run(
-        &mut arena,
-        &mut lists,
-        &mut live,
-        &mut regions,
-        &mut payloads,
-        &mut text,
-    );
+    let score = run(&mut arena, &mut lists, &mut live, &mut regions);
     ending(score);
 }
 
@@ -101,23 +90,16 @@ fn is_different(s: Score) -> bool {
 // ---- the calls
 
 // All rows, one after the other.
-fn run(
-    arena: &mut [u8],
-    lists: &mut [u64],
-    live: &mut [u64],
-    regions: &mut [u64],
-    payloads: &mut [usize],
-    text: &mut [u8],
-) -> Score {
+fn run(arena: &mut [u8], lists: &mut [u64], live: &mut [u64], regions: &mut [u64]) -> Score {
     let mut answers: u64 = 0;
     let mut frees: u64 = 0;
     let mut i: u64 = 0;
     while i < ROWS {
         let row = rows::row_at(i);
         let made = row.call;
-        let answer = call(arena, lists, live, regions, payloads, made);
+        let answer = call(arena, lists, live, regions, made);
         answers += is_expected(row, answer);
-        frees += show(arena, text, row, answer);
+        frees += show(arena, row, answer);
         i += 1;
     }
     Score { answers, frees }
@@ -128,83 +110,41 @@ fn call(
     lists: &mut [u64],
     live: &mut [u64],
     regions: &mut [u64],
-    payloads: &mut [usize],
     call: rows::Call,
 ) -> Answer {
     match call {
-        rows::Call::Give(start, length) => give(arena, lists, regions, start, length),
-        rows::Call::Take(name, size, align) => take(
-            arena,
-            lists,
-            live,
-            payloads,
-            name,
-            size,
-            align,
-        ),
-        rows::Call::Return(name, align) => give_back(arena, lists, live, payloads, name, align),
+        rows::Call::Give(start, length) => {
+            given(firmheap::insert_free_block(arena, lists, regions, start, length))
+        }
+        rows::Call::Take(_, size, align) => {
+            taken(firmheap::allocate(arena, lists, live, size, align))
+        }
+        rows::Call::Return(_, payload, align) => {
+            done(firmheap::deallocate(arena, lists, live, payload, align))
+        }
     }
 }
 
-fn give(
-    arena: &mut [u8],
-    lists: &mut [u64],
-    regions: &mut [u64],
-    start: usize,
-    length: usize,
-) -> Answer {
-    match firmheap::insert_free_block(arena, lists, regions, start, length) {
+// ---- answers
+
+fn given(g: firmheap::Given) -> Answer {
+    match g {
         firmheap::Given::Bytes(n) => answered(n),
         firmheap::Given::Refused(why) => refused(why),
     }
 }
 
-fn take(
-    arena: &mut [u8],
-    lists: &mut [u64],
-    live: &mut [u64],
-    payloads: &mut [usize],
-    name: u8,
-    size: usize,
-    align: usize,
-) -> Answer {
-    match firmheap::allocate(arena, lists, live, size, align) {
-        firmheap::Taken::At(payload) => {
-            keep(payloads, slot(name), payload);
-            answered(payload)
-        }
+fn taken(t: firmheap::Taken) -> Answer {
+    match t {
+        firmheap::Taken::At(payload) => answered(payload),
         firmheap::Taken::Refused(why) => refused(why),
     }
 }
 
-fn give_back(
-    arena: &mut [u8],
-    lists: &mut [u64],
-    live: &mut [u64],
-    payloads: &[usize],
-    name: u8,
-    align: usize,
-) -> Answer {
-    let i = slot(name);
-    if payloads.len() <= i {
-        return refused(NOT_LIVE);
-    }
-    match firmheap::deallocate(arena, lists, live, payloads[i], align) {
+fn done(d: firmheap::Done) -> Answer {
+    match d {
         firmheap::Done::Yes => answered(0),
         firmheap::Done::Refused(why) => refused(why),
-    }
-}
-
-// ---- the payloads by their names, and answers
-
-// The place of a name among the payloads.
-fn slot(name: u8) -> usize {
-    (name % 26) as usize
-}
-
-fn keep(payloads: &mut [usize], i: usize, payload: usize) {
-    if i < payloads.len() {
-        payloads[i] = payload;
     }
 }
 
@@ -235,18 +175,24 @@ fn is_expected(row: rows::Row, a: Answer) -> u64
 // ---- a line
 
 // Writes the row's line; 1 where the free blocks are the row's.
-fn show(arena: &[u8], text: &mut [u8], row: rows::Row, a: Answer) -> u64
+fn show(arena: &[u8], row: rows::Row, a: Answer) -> u64
     ensures { λ r. ⌜ r ≤ 1 ⌝ }
 {
-    let call = row.call;
     let free = row.free;
     let right = blocks::is_free(arena, free);
+    let mut text = [0u8; 240];
+    let end = put_line(arena, &mut text, row, a, right);
+    line::write(OUT, &text, end);
+    right
+}
+
+fn put_line(arena: &[u8], text: &mut [u8], row: rows::Row, a: Answer, right: u64) -> usize {
+    let call = row.call;
+    let free = row.free;
     let shown = put_columns(arena, text, call, a);
     let noted = put_answer_note(text, shown, row, a);
     let complete = put_free_note(text, noted, free, right);
-    let end = line::put(text, complete, b'\n');
-    line::write(OUT, text, end);
-    right
+    line::put(text, complete, b'\n')
 }
 
 // The four columns: the call, its answer, the free blocks, the bar.

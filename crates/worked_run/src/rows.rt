@@ -8,11 +8,11 @@ pub const NONE: usize = 18446744073709551615;
 // The most free blocks of a row.
 pub const MOST_FREE: usize = 3;
 
-// A call: a region's start and length; a payload's name, size and alignment; a payload's name and alignment.
+// A call: a region's start and length; a payload's name, size and alignment; a payload's name, offset and alignment.
 pub enum Call {
     Give(usize, usize),
     Take(u8, usize, usize),
-    Return(u8, usize),
+    Return(u8, usize, usize),
 }
 
 // The free blocks. One of size 0 is none.
@@ -37,20 +37,20 @@ pub fn row_at(i: u64) -> Row {
         3 => made(Call::Take(b'C', 24, 64), 1216, one(1248, 64256)),
         4 => made(Call::Take(b'D', 0, 1), 1264, one(1280, 64224)),
         5 => made(Call::Take(b'E', 2000, 16), 1296, one(3296, 62208)),
-        6 => made(Call::Return(b'B', 8), 0, two(128, 1024, 3296, 62208)),
+        6 => made(Call::Return(b'B', 144, 8), 0, two(128, 1024, 3296, 62208)),
         7 => made(Call::Take(b'F', 900, 8), 144, two(1056, 96, 3296, 62208)),
         8 => made(
-            Call::Return(b'A', 8),
+            Call::Return(b'A', 16, 8),
             0,
             three(0, 128, 1056, 96, 3296, 62208),
         ),
-        9 => made(Call::Return(b'F', 8), 0, two(0, 1152, 3296, 62208)),
+        9 => made(Call::Return(b'F', 144, 8), 0, two(0, 1152, 3296, 62208)),
         10 => made(Call::Take(b'J', 1008, 8), 16, two(1024, 128, 3296, 62208)),
-        11 => made(Call::Return(b'C', 64), 0, two(1024, 224, 3296, 62208)),
-        12 => made(Call::Return(b'J', 8), 0, two(0, 1248, 3296, 62208)),
+        11 => made(Call::Return(b'C', 1216, 64), 0, two(1024, 224, 3296, 62208)),
+        12 => made(Call::Return(b'J', 16, 8), 0, two(0, 1248, 3296, 62208)),
         13 => made(Call::Take(b'K', 65000, 8), NONE, two(0, 1248, 3296, 62208)),
-        14 => made(Call::Return(b'D', 1), 0, two(0, 1280, 3296, 62208)),
-        _ => made(Call::Return(b'E', 16), 0, one(0, 65504)),
+        14 => made(Call::Return(b'D', 1264, 1), 0, two(0, 1280, 3296, 62208)),
+        _ => made(Call::Return(b'E', 1296, 16), 0, one(0, 65504)),
     }
 }
 
@@ -87,7 +87,7 @@ pub fn put_call(text: &mut [u8], at: usize, call: Call) -> usize {
             let parted = line::put(text, named, b' ');
             put_pair(text, parted, size, b", align ", align)
         }
-        Call::Return(name, _) => {
+        Call::Return(name, _, _) => {
             let said = line::put_text(text, at, b"return ");
             line::put(text, said, name)
         }
@@ -104,7 +104,7 @@ fn put_pair(text: &mut [u8], at: usize, first: usize, between: &[u8], second: us
 // An answer to a call. That of a return is that it is done.
 pub fn put_answer(text: &mut [u8], at: usize, call: Call, answer: usize) -> usize {
     match call {
-        Call::Return(_, _) => line::put_text(text, at, b"done"),
+        Call::Return(_, _, _) => line::put_text(text, at, b"done"),
         _ => line::put_number(text, at, answer as u64),
     }
 }

@@ -7,10 +7,10 @@ use Rattle.worked_run.proofs.run.Statement.{statement}
 use Rattle.worked_run.proofs.run.Tie as tie
 
 abbrev Inv-loop : tie.InvT-loop
-Inv-loop arena₀ lists₀ live₀ regions₀ payloads₀ text₀ answers₀ frees₀ i₀ arena lists live regions payloads text answers frees i = (i ≤ 16) × (answers ≤ i) × (frees ≤ i) × (length arena ≡ length arena₀) × (length lists ≡ length lists₀) × (length live ≡ length live₀) × (length regions ≡ length regions₀) × (length payloads ≡ length payloads₀) × (length text ≡ length text₀)
+Inv-loop arena₀ lists₀ live₀ regions₀ answers₀ frees₀ i₀ arena lists live regions answers frees i = (i ≤ 16) × (answers ≤ i) × (frees ≤ i) × (length arena ≡ length arena₀) × (length lists ≡ length lists₀) × (length live ≡ length live₀) × (length regions ≡ length regions₀)
 
 abbrev μ-loop : tie.MeasureT-loop
-μ-loop arena₀ lists₀ live₀ regions₀ payloads₀ text₀ answers₀ frees₀ i₀ arena lists live regions payloads text answers frees i = 16 - i
+μ-loop arena₀ lists₀ live₀ regions₀ answers₀ frees₀ i₀ arena lists live regions answers frees i = 16 - i
 
 loop-holds : tie.Need-loop-holds Inv-loop μ-loop
 loop-holds c = search needs
@@ -54,12 +54,6 @@ same-length-3 c = search needs
 same-length-4 : tie.Need-same-length-4 Inv-loop μ-loop
 same-length-4 c = search needs
 
-same-length-5 : tie.Need-same-length-5 Inv-loop μ-loop
-same-length-5 c = search needs
-
-same-length-6 : tie.Need-same-length-6 Inv-loop μ-loop
-same-length-6 c = search needs
-
 returns : tie.Need-returns Inv-loop μ-loop
 returns c = search needs
 
@@ -83,6 +77,4 @@ run-spec =
     same-length-2
     same-length-3
     same-length-4
-    same-length-5
-    same-length-6
     returns)
