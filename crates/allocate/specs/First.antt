@@ -19,10 +19,10 @@ use Rattle.sound.specs.Checks.{Word, isFree, isUsed, isLast, isBad, wordOf, asF
 use Rattle.sound.specs.Plans.{Plan}
 use Rattle.slices.specs.Decode.{grains, wrongLink, Inside}
 use Rattle.slices.specs.Arena.{sizeAt, linkAt, link-in, size-inside}
-use Rattle.slices.specs.Slices.{memoryOf, memory-size, memory-before}
+use Rattle.slices.specs.Slices.{memory-size, memory-before}
 use Rattle.header.specs.Turned.{turned}
 use Rattle.header.specs.Told.{freeOf, busyOf}
-use Rattle.free_list.specs.Lent.{lent, Leads, noLink, link, link-none, link-some, link-grain, link-past}
+use Rattle.free_list.specs.Lent.{lent, held, noLink, link, Leads, link-none, link-some, link-grain, link-past}
 use Rattle.free_list.specs.Back.{Back, reading-next, reading-prev, back-yes, back-no}
 use Rattle.free_list.specs.Seen.{head-read}
 use Rattle.allocate.specs.declared.First.{First}
@@ -90,7 +90,7 @@ after false x = no 5
 -- the answer on list k is that of the checks, whatever follows them
 pub record SeenFirst (a l : List ℕ) (k : ℕ) (r : First) : Type 0 where
   pub seen : (v t : List ℕ) (f : ℕ → ℕ → ℕ → Script Plan) →
-      run (memoryOf 8 (lent a l v t)) (firstThen (grains 8 a) k f) ≡ after (r .ok) (run (memoryOf 8 (lent a l v t)) (f (r .at) (r .grains) (link a (r .next))))
+      run (held a l v t) (firstThen (grains 8 a) k f) ≡ after (r .ok) (run (held a l v t) (f (r .at) (r .grains) (link a (r .next))))
   pub inside : r .ok ≡ true → (r .at + r .grains < grains 8 a) × (0 < r .grains) × (listOf (r .grains) ≡ k) × Leads a (r .next)
 
 -- ---- the parts, on any memory
@@ -157,78 +157,78 @@ back-leads a y x (inr q) = inr (q .0)
 
 -- what was lost is nowhere
 lose : (a l : List ℕ) (k : ℕ) (r : First) → Lost r
-    → ((v t : List ℕ) (f : Onward) → run (memoryOf 8 (lent a l v t)) (firstThen (grains 8 a) k f) ≡ no 5) → SeenFirst a l k r
+    → ((v t : List ℕ) (f : Onward) → run (held a l v t) (firstThen (grains 8 a) k f) ≡ no 5) → SeenFirst a l k r
 lose a l k r e h = record {
-  seen = λ v t f. h v t f ∙ ap (λ (b : Bool). after b (run (memoryOf 8 (lent a l v t)) (f (r .at) (r .grains) (link a (r .next))))) (sym e);
+  seen = λ v t f. h v t f ∙ ap (λ (b : Bool). after b (run (held a l v t) (f (r .at) (r .grains) (link a (r .next))))) (sym e);
   inside = λ q. let z : true ≡ false = sym q ∙ e in let c : _≡_ {A = ℕ} 0 1 = cc in absurd (omega arith);
 }
 
-reading-before : (a l v t : List ℕ) (g : ℕ) → g < grains 8 a → memoryOf 8 (lent a l v t) Before g ≡ linkAt 8 a Before 0 g
+reading-before : (a l v t : List ℕ) (g : ℕ) → g < grains 8 a → held a l v t Before g ≡ linkAt 8 a Before 0 g
 reading-before a l v t g h = memory-before 8 (lent a l v t) g ∙ link-in 8 a g Before wrongLink h ∙ sym (link-in 8 a g Before 0 h)
 
 module _ (a l : List ℕ) (k h y : ℕ) (s : length a < 18446744073709551616) (j : k < lists) (headIs : h ≡ entry l (mapWords + k)) (e : y ≡ turned h) (r : First) where
   -- the head is no grain
   pub first-outside : Lost r → grains 8 a ≤ y → SeenFirst a l k r
   first-outside o q = lose a l k r o λ v t f.
-      headless (memoryOf 8 (lent a l v t)) (grains 8 a) (link a h) 0 f k (head-read a l v t k h j headIs) (link-past a h s (omega arith))
+      headless (held a l v t) (grains 8 a) (link a h) 0 f k (head-read a l v t k h j headIs) (link-past a h s (omega arith))
 
   module _ (i : y < grains 8 a) (g : ℕ) (c : g ≡ freeOf (wordOf (sizeAt 8 a y))) where
-    head-is : (v t : List ℕ) (f : Onward) → run (memoryOf 8 (lent a l v t)) (firstThen (grains 8 a) k f) ≡ run (memoryOf 8 (lent a l v t)) (sizeThen (grains 8 a) k y f)
-    head-is v t f = headed (memoryOf 8 (lent a l v t)) (grains 8 a) y 0 f k (head-read a l v t k h j headIs ∙ link-grain a h s (omega arith) ∙ sym e) i
+    head-is : (v t : List ℕ) (f : Onward) → run (held a l v t) (firstThen (grains 8 a) k f) ≡ run (held a l v t) (sizeThen (grains 8 a) k y f)
+    head-is v t f = headed (held a l v t) (grains 8 a) y 0 f k (head-read a l v t k h j headIs ∙ link-grain a h s (omega arith) ∙ sym e) i
 
     -- no free block is there
     pub first-busy : Lost r → g ≡ 0 → SeenFirst a l k r
     first-busy o q = lose a l k r o λ v t f. head-is v t f
-        ∙ not-free (memoryOf 8 (lent a l v t)) (grains 8 a) y 0 f k (wordOf (sizeAt 8 a y)) (ap wordOf (memory-size 8 (lent a l v t) y)) (size-inside 8 a y) (sym c ∙ q)
+        ∙ not-free (held a l v t) (grains 8 a) y 0 f k (wordOf (sizeAt 8 a y)) (ap wordOf (memory-size 8 (lent a l v t) y)) (size-inside 8 a y) (sym c ∙ q)
 
     module _ (p : g ≡ 0 → ⊥) where
       first-inside : y + g < grains 8 a
       first-inside = free-inside a y g c p
 
-      is-free : (v t : List ℕ) → wordOf (memoryOf 8 (lent a l v t) Size y) ≡ isFree g
+      is-free : (v t : List ℕ) → wordOf (held a l v t Size y) ≡ isFree g
       is-free v t = ap wordOf (memory-size 8 (lent a l v t) y) ∙ free-word (wordOf (sizeAt 8 a y)) (grains 8 a) y g (size-inside 8 a y) c p .0
 
       -- a block of another list
       pub first-elsewhere : Lost r → (q : ℕ) → q ≡ listOf g → (q ≡ k → ⊥) → SeenFirst a l k r
       first-elsewhere o q w ne = lose a l k r o λ v t f. head-is v t f
-          ∙ listed-elsewhere (memoryOf 8 (lent a l v t)) (grains 8 a) y g f k (is-free v t) (λ z. ne (w ∙ z))
+          ∙ listed-elsewhere (held a l v t) (grains 8 a) y g f k (is-free v t) (λ z. ne (w ∙ z))
 
       module _ (q : ℕ) (w : q ≡ listOf g) (z : q ≡ k) (x : ℕ) (nextIs : x ≡ wordAt 8 a (4 * y + Next)) where
-        size-is : (v t : List ℕ) (f : Onward) → run (memoryOf 8 (lent a l v t)) (firstThen (grains 8 a) k f) ≡ run (memoryOf 8 (lent a l v t)) (linksThen (grains 8 a) y g f)
-        size-is v t f = head-is v t f ∙ sized (memoryOf 8 (lent a l v t)) (grains 8 a) y g f k (is-free v t) (sym w ∙ z)
+        size-is : (v t : List ℕ) (f : Onward) → run (held a l v t) (firstThen (grains 8 a) k f) ≡ run (held a l v t) (linksThen (grains 8 a) y g f)
+        size-is v t f = head-is v t f ∙ sized (held a l v t) (grains 8 a) y g f k (is-free v t) (sym w ∙ z)
 
-        next-read : (v t : List ℕ) → memoryOf 8 (lent a l v t) Next y ≡ link a x
+        next-read : (v t : List ℕ) → held a l v t Next y ≡ link a x
         next-read v t = reading-next a l v t s y i ∙ link-in 8 a y Next 0 i ∙ ap (link a) (sym nextIs)
 
-        prev-read : (v t : List ℕ) → memoryOf 8 (lent a l v t) Prev y ≡ link a (wordAt 8 a (4 * y + Prev))
+        prev-read : (v t : List ℕ) → held a l v t Prev y ≡ link a (wordAt 8 a (4 * y + Prev))
         prev-read v t = reading-prev a l v t y i ∙ link-in 8 a y Prev 0 i
 
         -- something is before it, or the next does not lead back
         pub first-astray : Lost r → (IsFirst a y x → ⊥) → SeenFirst a l k r
         first-astray o u = lose a l k r o λ v t f. size-is v t f ∙ ⊎-elim
-            (λ (b : wordAt 8 a (4 * y + Prev) ≡ noLink). next-astray (memoryOf 8 (lent a l v t)) (grains 8 a) y g f (link a x)
+            (λ (b : wordAt 8 a (4 * y + Prev) ≡ noLink). next-astray (held a l v t) (grains 8 a) y g f (link a x)
             (prev-read v t ∙ link-none a (wordAt 8 a (4 * y + Prev)) s b) (next-read v t)
-            (back-no (memoryOf 8 (lent a l v t)) a Prev x y s (reading-prev a l v t) (λ d. u (b, d))))
-            (λ (b : wordAt 8 a (4 * y + Prev) ≡ noLink → ⊥). prev-astray (memoryOf 8 (lent a l v t)) (grains 8 a) y g f
+            (back-no (held a l v t) a Prev x y s (reading-prev a l v t) (λ d. u (b, d))))
+            (λ (b : wordAt 8 a (4 * y + Prev) ≡ noLink → ⊥). prev-astray (held a l v t) (grains 8 a) y g f
             (λ d. link-some a (wordAt 8 a (4 * y + Prev)) s b (sym (prev-read v t) ∙ d)))
             (same? (wordAt 8 a (4 * y + Prev)) noLink)
 
         module _ (u : IsFirst a y x) where
-          links-are : (v t : List ℕ) (f : Onward) → run (memoryOf 8 (lent a l v t)) (firstThen (grains 8 a) k f) ≡ run (memoryOf 8 (lent a l v t)) (endThen y g (link a x) f)
-          links-are v t f = size-is v t f ∙ links (memoryOf 8 (lent a l v t)) (grains 8 a) y g f (link a x)
+          links-are : (v t : List ℕ) (f : Onward) → run (held a l v t) (firstThen (grains 8 a) k f) ≡ run (held a l v t) (endThen y g (link a x) f)
+          links-are v t f = size-is v t f ∙ links (held a l v t) (grains 8 a) y g f (link a x)
               (prev-read v t ∙ link-none a (wordAt 8 a (4 * y + Prev)) s (u .0)) (next-read v t)
-              (back-yes (memoryOf 8 (lent a l v t)) a Prev x y s (reading-prev a l v t) (u .1))
+              (back-yes (held a l v t) a Prev x y s (reading-prev a l v t) (u .1))
 
           -- no block in use is behind it
           pub first-unbounded : Lost r → (IsBounded a y (y + g) → ⊥) → SeenFirst a l k r
           first-unbounded o b = lose a l k r o λ v t f. links-are v t f
-              ∙ endless (memoryOf 8 (lent a l v t)) (grains 8 a) y g f (link a x) (wordOf (sizeAt 8 a (y + g))) (ap wordOf (memory-size 8 (lent a l v t) (y + g)))
+              ∙ endless (held a l v t) (grains 8 a) y g f (link a x) (wordOf (sizeAt 8 a (y + g))) (ap wordOf (memory-size 8 (lent a l v t) (y + g)))
               (λ d. b (d .0, sym (reading-before a l v t (y + g) first-inside) ∙ d .1))
 
           -- all agrees
           pub first-seen : r ≡ record { ok = true; at = y; grains = g; next = x } → IsBounded a y (y + g) → SeenFirst a l k r
           first-seen d b = rw d (record {
             seen = λ v t f. links-are v t f
-                ∙ ends (memoryOf 8 (lent a l v t)) (grains 8 a) y g f (link a x) (wordOf (sizeAt 8 a (y + g))) (ap wordOf (memory-size 8 (lent a l v t) (y + g))) (b .0) (reading-before a l v t (y + g) first-inside ∙ b .1);
+                ∙ ends (held a l v t) (grains 8 a) y g f (link a x) (wordOf (sizeAt 8 a (y + g))) (ap wordOf (memory-size 8 (lent a l v t) (y + g))) (b .0) (reading-before a l v t (y + g) first-inside ∙ b .1);
             inside = λ _. (first-inside, omega (arith, p), sym w ∙ z, back-leads a y x (u .1));
           })

@@ -1,4 +1,6 @@
--- Taking a block: what the checks of a list's first block and of the rest answer, and what a plan of a take says.
+-- Taking a block: what is asked for (Demand), what the checks of a list's first block (First) and of the rest (Rest) answer,
+-- and what a plan of a take says (Plan).
+pub mod Demand
 pub mod First
 pub mod Rest
 pub mod Plan

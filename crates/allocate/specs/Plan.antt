@@ -5,7 +5,6 @@ use native.Mathlib.Omega.{arith}
 use mathlib.Core.Path.{_≡_, refl, ap, sym, _∙_, subst}
 use mathlib.Core.Bool.{Bool, true, false}
 use mathlib.Core.List.{List, [], _∷_, _++_}
-use Rattle.align.specs.Align.{Power}
 use Rattle.bits.specs.First.{firstSet, first-from, first-agree}
 use Rattle.bits.specs.Map.{lists, mapBit}
 use Rattle.class.specs.Class.{startOf, floor, floor-at, floor-lt, floor-order, start-enough, start-fits}
@@ -17,20 +16,14 @@ use Rattle.sound.specs.Links.{unlinkWrites}
 use Rattle.sound.specs.Plans.{leaveScript, padWrites, takeScript}
 use Rattle.sound.specs.Plans.{Plan as Answer}
 use Rattle.slices.specs.Decode.{grains}
-use Rattle.slices.specs.Slices.{memoryOf, memory-mark}
-use Rattle.free_list.specs.Lent.{lent, Room, Leads, link}
-use Rattle.free_list.specs.Back.{answer}
+use Rattle.slices.specs.Slices.{memory-mark}
+use Rattle.free_list.specs.Lent.{lent, held, classes, Room, link, Leads}
+use Rattle.free_list.specs.Answers.{answer, unless}
 use Rattle.allocate.specs.declared.Plan.{Plan}
 use Rattle.allocate.specs.declared.First.{First}
 use Rattle.allocate.specs.declared.Rest.{Rest}
 use Rattle.allocate.specs.First.{firstThen, after, SeenFirst}
-use Rattle.allocate.specs.Rest.{classes, leftWrites, SeenRest}
-
--- p half grains at a multiple of u
-pub record InRange (p u : ℕ) : Type 0 where
-  pub power : Power u
-  pub most : u ≤ 256
-  pub fits : p + u + 1 < 2 ^ 64
+use Rattle.allocate.specs.Rest.{leftWrites, SeenRest}
 
 -- ---- what a plan says
 
@@ -41,13 +34,8 @@ madeOf y d w = record { answer = 2 * y + d; writes = w ++ (padWrites y d ++ ((Li
 abbrev pub madeBy : List ℕ → Plan → Answer
 madeBy a r = madeOf (r .at) (r .place) (leftWrites a (r .list) (r .next) (r .at) (r .grains) (r .keep) (r .«rest_list») (r .head))
 
--- refused, unless with 0
-abbrev pub byRefusal : ℕ → Answer → Result Answer
-byRefusal zero x = ok x
-byRefusal (suc r) x = no (suc r)
-
 abbrev pub shown : List ℕ → Plan → Result Answer
-shown a r = byRefusal (r .refusal) (madeBy a r)
+shown a r = unless (r .refusal) (madeBy a r)
 
 abbrev pub Refuses : ℕ → Plan → Type 0
 Refuses w r = r .refusal ≡ w
@@ -64,7 +52,7 @@ pub record Bounded (a l : List ℕ) (r : Plan) : Type 0 where
 
 -- it is what the script answers
 pub record Plans (a l : List ℕ) (p u : ℕ) (r : Plan) : Type 0 where
-  pub answers : (v t : List ℕ) → shown a r ≡ run (memoryOf 8 (lent a l v t)) (takeScript (grains 8 a) classes p u)
+  pub answers : (v t : List ℕ) → shown a r ≡ run (held a l v t) (takeScript (grains 8 a) classes p u)
   pub bounds : r .refusal ≡ 0 → Bounded a l r
 
 -- the part of the script behind the checks of the first block
@@ -74,7 +62,7 @@ cutScript n k p u y s x = do
   done (madeOf y (place u y) w)
 
 pub record Cuts (a l : List ℕ) (k y s x p u : ℕ) (r : Plan) : Type 0 where
-  pub answers : (v t : List ℕ) → shown a r ≡ run (memoryOf 8 (lent a l v t)) (cutScript (grains 8 a) k p u y s (link a x))
+  pub answers : (v t : List ℕ) → shown a r ≡ run (held a l v t) (cutScript (grains 8 a) k p u y s (link a x))
   pub bounds : r .refusal ≡ 0 → Bounded a l r
 
 -- a refusal needs no room
@@ -91,12 +79,12 @@ keeps-within u y p s d m h e q l =
 
 -- the rest is damaged
 damaged-answers : (a l : List ℕ) (k y s x p u d m : ℕ) (r : Plan) (o : Rest) → Refuses 5 r → d ≡ place u y → m ≡ keeps d p
-    → SeenRest a l k x s m o → o .ok ≡ false → (v t : List ℕ) → shown a r ≡ run (memoryOf 8 (lent a l v t)) (cutScript (grains 8 a) k p u y s (link a x))
+    → SeenRest a l k x s m o → o .ok ≡ false → (v t : List ℕ) → shown a r ≡ run (held a l v t) (cutScript (grains 8 a) k p u y s (link a x))
 damaged-answers a l k y s x p u d m r o f e q w b v t =
-    let c = memoryOf 8 (lent a l v t) in
+    let c = held a l v t in
     let g : m ≡ keeps (place u y) p = q ∙ ap (λ (z : ℕ). keeps z p) e in
     let h = sym (w .seen v t y) ∙ ap (λ (z : Bool). answer z (leftWrites a k x y s m (o .list) (o .head))) b in
-    ap (λ (z : ℕ). byRefusal z (madeBy a r)) f
+    ap (λ (z : ℕ). unless z (madeBy a r)) f
     ∙ sym (halts c (leaveScript (grains 8 a) classes (unlinkWrites k (link a x) none) y s (keeps (place u y) p)) _ (subst (λ (z : ℕ). run c (leaveScript (grains 8 a) classes (unlinkWrites k (link a x) none) y s z) ≡ no 5) g h))
 
 pub cut-damaged : (a l : List ℕ) (k y s x p u d m : ℕ) (r : Plan) (o : Rest) → Refuses 5 r → d ≡ place u y → m ≡ keeps d p
@@ -108,9 +96,9 @@ abbrev cutPlan : ℕ → ℕ → ℕ → ℕ → ℕ → ℕ → Rest → Plan
 cutPlan k y s x d m o = record { refusal = 0; list = k; at = y; grains = s; next = x; place = d; keep = m; «rest_list» = o .list; head = o .head }
 
 made-answers : (a l : List ℕ) (k y s x p u d m : ℕ) (o : Rest) → d ≡ place u y → m ≡ keeps d p → SeenRest a l k x s m o → o .ok ≡ true
-    → (v t : List ℕ) → shown a (cutPlan k y s x d m o) ≡ run (memoryOf 8 (lent a l v t)) (cutScript (grains 8 a) k p u y s (link a x))
+    → (v t : List ℕ) → shown a (cutPlan k y s x d m o) ≡ run (held a l v t) (cutScript (grains 8 a) k p u y s (link a x))
 made-answers a l k y s x p u d m o e q w b v t =
-    let c = memoryOf 8 (lent a l v t) in
+    let c = held a l v t in
     let g : m ≡ keeps (place u y) p = q ∙ ap (λ (z : ℕ). keeps z p) e in
     let h = sym (w .seen v t y) ∙ ap (λ (z : Bool). answer z (leftWrites a k x y s m (o .list) (o .head))) b in
     ap (λ (z : ℕ). ok (madeOf y z (leftWrites a k x y s m (o .list) (o .head)))) e
@@ -152,37 +140,37 @@ fromList n p u k = unlessLe 1 (suc k) (16 * classes) >> firstThen n k (λ y s x.
 
 -- it starts at list c and finds list k
 module _ (a l : List ℕ) (p u c k : ℕ) (startIs : c ≡ startOf (wanted p u)) (listIs : k ≡ found l c) where
-  searched : (v t : List ℕ) → run (memoryOf 8 (lent a l v t)) (takeScript (grains 8 a) classes p u) ≡ run (memoryOf 8 (lent a l v t)) (fromList (grains 8 a) p u k)
+  searched : (v t : List ℕ) → run (held a l v t) (takeScript (grains 8 a) classes p u) ≡ run (held a l v t) (fromList (grains 8 a) p u k)
   unfolding takeScript
   searched v t =
-      let m = memoryOf 8 (lent a l v t) in
+      let m = held a l v t in
       let i : found l (startOf (wanted p u)) ≡ k = ap (found l) (sym startIs) ∙ sym listIs in
       searches m (lists - startOf (wanted p u)) (startOf (wanted p u)) _
       (first-agree (m Mark) (mapBit l) (lists - startOf (wanted p u)) (startOf (wanted p u)) (λ j _ _. memory-mark 8 (lent a l v t) j) ∙ i)
 
   -- no list has a block
-  none-answers : (r : Plan) → Refuses 1 r → lists ≤ k → (v t : List ℕ) → shown a r ≡ run (memoryOf 8 (lent a l v t)) (takeScript (grains 8 a) classes p u)
+  none-answers : (r : Plan) → Refuses 1 r → lists ≤ k → (v t : List ℕ) → shown a r ≡ run (held a l v t) (takeScript (grains 8 a) classes p u)
   none-answers r e h v t =
-      let m = memoryOf 8 (lent a l v t) in
-      ap (λ (z : ℕ). byRefusal z (madeBy a r)) e
+      let m = held a l v t in
+      ap (λ (z : ℕ). unless z (madeBy a r)) e
       ∙ sym (searched v t ∙ halts m (unlessLe 1 (suc k) (16 * classes)) _ (halts-le m 1 (suc k) (16 * classes) (omega arith)))
 
   pub plan-none : (r : Plan) → Refuses 1 r → lists ≤ k → Plans a l p u r
   plan-none r e h = record { answers = none-answers r e h; bounds = refused a l 1 r (omega arith) e }
 
   module _ (h : k < lists) (o : First) (w : SeenFirst a l k o) where
-    seen : (v t : List ℕ) → run (memoryOf 8 (lent a l v t)) (takeScript (grains 8 a) classes p u)
-        ≡ after (o .ok) (run (memoryOf 8 (lent a l v t)) (cutScript (grains 8 a) k p u (o .at) (o .grains) (link a (o .next))))
+    seen : (v t : List ℕ) → run (held a l v t) (takeScript (grains 8 a) classes p u)
+        ≡ after (o .ok) (run (held a l v t) (cutScript (grains 8 a) k p u (o .at) (o .grains) (link a (o .next))))
     seen v t =
-        let m = memoryOf 8 (lent a l v t) in
+        let m = held a l v t in
         searched v t ∙ goes m (unlessLe 1 (suc k) (16 * classes)) _ (gives-le m 1 (suc k) (16 * classes) (omega arith))
         ∙ w .seen v t (cutScript (grains 8 a) k p u)
 
     -- its first block is damaged
-    lost-answers : (r : Plan) → Refuses 5 r → o .ok ≡ false → (v t : List ℕ) → shown a r ≡ run (memoryOf 8 (lent a l v t)) (takeScript (grains 8 a) classes p u)
+    lost-answers : (r : Plan) → Refuses 5 r → o .ok ≡ false → (v t : List ℕ) → shown a r ≡ run (held a l v t) (takeScript (grains 8 a) classes p u)
     lost-answers r e b v t =
-        ap (λ (z : ℕ). byRefusal z (madeBy a r)) e
-        ∙ sym (seen v t ∙ ap (λ (z : Bool). after z (run (memoryOf 8 (lent a l v t)) (cutScript (grains 8 a) k p u (o .at) (o .grains) (link a (o .next))))) b)
+        ap (λ (z : ℕ). unless z (madeBy a r)) e
+        ∙ sym (seen v t ∙ ap (λ (z : Bool). after z (run (held a l v t) (cutScript (grains 8 a) k p u (o .at) (o .grains) (link a (o .next))))) b)
 
     pub plan-damaged : (r : Plan) → Refuses 5 r → o .ok ≡ false → Plans a l p u r
     plan-damaged r e b = record { answers = lost-answers r e b; bounds = refused a l 5 r (omega arith) e }
@@ -191,7 +179,7 @@ module _ (a l : List ℕ) (p u c k : ℕ) (startIs : c ≡ startOf (wanted p u))
     pub plan-cut : (r : Plan) → o .ok ≡ true → Cuts a l k (o .at) (o .grains) (o .next) p u r → Plans a l p u r
     plan-cut r b q = record {
       answers = λ v t. q .answers v t
-          ∙ sym (seen v t ∙ ap (λ (z : Bool). after z (run (memoryOf 8 (lent a l v t)) (cutScript (grains 8 a) k p u (o .at) (o .grains) (link a (o .next))))) b);
+          ∙ sym (seen v t ∙ ap (λ (z : Bool). after z (run (held a l v t) (cutScript (grains 8 a) k p u (o .at) (o .grains) (link a (o .next))))) b);
       bounds = q .bounds;
     }
 

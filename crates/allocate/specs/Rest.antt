@@ -16,17 +16,12 @@ use Rattle.sound.specs.Checks.{mustList, seeHead}
 use Rattle.sound.specs.Links.{node, unlinkWrites, pushWrites}
 use Rattle.sound.specs.Plans.{wholeWrites, splitWrites, leaveScript}
 use Rattle.slices.specs.Decode.{grains}
-use Rattle.slices.specs.Slices.{memoryOf}
 use Rattle.free_list.specs.declared.Head.{Head}
-use Rattle.free_list.specs.Lent.{lent, link, Leads}
-use Rattle.free_list.specs.Back.{answer}
+use Rattle.free_list.specs.Lent.{held, classes, link, Leads}
+use Rattle.free_list.specs.Answers.{answer}
 use Rattle.free_list.specs.Seen.{SeenHead}
 use Rattle.free_list.specs.Leading.{head-leads}
 use Rattle.allocate.specs.declared.Rest.{Rest}
-
--- twelve first-level classes
-abbrev pub classes : ℕ
-classes = 12
 
 -- the first block of list k, of s grains at y, whose next is the word x, leaves its list and keeps m grains; the rest, if
 -- any, goes before the word h, the head of list q
@@ -38,7 +33,7 @@ leftWrites a k x y s m q h = ifEq m s
 -- the answer is that of the script, wherever the block is; and the rest can be put before its head
 pub record SeenRest (a l : List ℕ) (k x s m : ℕ) (r : Rest) : Type 0 where
   pub seen : (v t : List ℕ) (y : ℕ) →
-      answer (r .ok) (leftWrites a k x y s m (r .list) (r .head)) ≡ run (memoryOf 8 (lent a l v t)) (leaveScript (grains 8 a) classes (unlinkWrites k (link a x) none) y s m)
+      answer (r .ok) (leftWrites a k x y s m (r .list) (r .head)) ≡ run (held a l v t) (leaveScript (grains 8 a) classes (unlinkWrites k (link a x) none) y s m)
   pub ready : (m ≡ s → ⊥) → r .ok ≡ true → (r .list < lists) × (Leads a x → Leads a (r .head))
 
 -- the head of list q, as it is after the first block of list k left
@@ -67,19 +62,19 @@ rest-listed s m k h n e j = omega (arith, list-mono (s - m) s (omega (arith, n))
 pub rest-none : (a l : List ℕ) (k x s m : ℕ) → m ≡ s → SeenRest a l k x s m (record { ok = true; list = 0; head = 0 })
 unfolding leaveScript
 rest-none a l k x s m e = record {
-  seen = λ v t y. ap ok (eq-yes m s _ _ e) ∙ sym (ap (run (memoryOf 8 (lent a l v t))) (eq-yes m s _ _ e) ∙ gives-done (memoryOf 8 (lent a l v t)) _);
+  seen = λ v t y. ap ok (eq-yes m s _ _ e) ∙ sym (ap (run (held a l v t)) (eq-yes m s _ _ e) ∙ gives-done (held a l v t) _);
   ready = λ n _. absurd (n e);
 }
 
 -- the rest goes to list q, whose head was seen
 rest-shown : (a l : List ℕ) (k x s m q h : ℕ) (r : Head) → (m ≡ s → ⊥) → q ≡ listOf (s - m) → q < lists → SeenHead a l q r → h ≡ ifEq q k x (r .word)
-    → (v t : List ℕ) (y : ℕ) → answer (r .ok) (leftWrites a k x y s m q h) ≡ run (memoryOf 8 (lent a l v t)) (leaveScript (grains 8 a) classes (unlinkWrites k (link a x) none) y s m)
+    → (v t : List ℕ) (y : ℕ) → answer (r .ok) (leftWrites a k x y s m q h) ≡ run (held a l v t) (leaveScript (grains 8 a) classes (unlinkWrites k (link a x) none) y s m)
 unfolding leaveScript
 rest-shown a l k x s m q h r n e j w d v t y =
     go (r .ok) (w v t) ∙ sym (ap (run c) (eq-no m s _ _ n))
   where
     c : Memory
-    c = memoryOf 8 (lent a l v t)
+    c = held a l v t
 
     u : List Write
     u = unlinkWrites k (link a x) none

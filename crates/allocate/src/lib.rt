@@ -2,34 +2,24 @@
 // of the lists are lent. Links are words: the bytes of a grain, or none.
 ghost use mathlib.Core.Path.{_≡_};
 ghost use Prim.Native.Nat.{_+_, _≤_, _<_};
-ghost use lib.ListN.{length as lengthOf};
 ghost use Rattle.choice.specs.Says.{Says};
 ghost use Rattle.choice.specs.Choice.{ifEq};
-ghost use Rattle.bits.specs.Map.{mapWords, lists as listCount};
 ghost use Rattle.class.specs.Class.{listOf};
 ghost use Rattle.definition.specs.Calls.{wanted as wantedOf};
 ghost use Rattle.slices.specs.Decode.{grains as grainsOf};
-ghost use Rattle.free_list.specs.Lent.{Room, Leads};
+ghost use Rattle.free_list.specs.Lent.{Long, Room, Leads};
+ghost use Rattle.allocate.specs.Demand.{Demand};
 ghost use Rattle.allocate.specs.First.{IsFirst, IsBounded, Lost, SeenFirst};
 ghost use Rattle.allocate.specs.Rest.{SeenRest};
-ghost use Rattle.allocate.specs.Plan.{InRange, Refuses, Cuts, Plans};
+ghost use Rattle.allocate.specs.Plan.{Refuses, Cuts, Plans};
+use bits::LISTS;
+use bits::MAP_WORDS;
+use header::BEFORE;
+use header::NEXT;
+use header::NONE;
+use header::PREV;
 
-// The words of a header.
-const BEFORE: usize = 1;
-
-const NEXT: usize = 2;
-
-const PREV: usize = 3;
-
-// A link that leads nowhere.
-const NONE: u64 = 18446744073709551615;
-
-// The words of the map, behind which the heads stand.
-const MAP_WORDS: usize = 3;
-
-// How many lists there are, and the least size in grains that has none.
-const LISTS: usize = 192;
-
+// The least size in grains that has no list.
 const LARGE: usize = 4096;
 
 // The refusals: no list has a block; the records contradict each other.
@@ -70,7 +60,7 @@ struct Rest {
 
 // A payload of some half grains at a multiple of others.
 pub fn plan_take(a: &[u8], lists: &[u64], length: usize, multiple: usize) -> Plan
-    requires { ⌜ InRange length multiple × (mapWords + listCount ≤ lengthOf (now lists)) ⌝ }
+    requires { ⌜ Demand length multiple × Long (now lists) ⌝ }
     ensures { λ r. ⌜ Plans (now (a .entry)) (now (lists .entry)) length multiple r ⌝ }
 {
     let wanted = (length + multiple + 1) / 2;
@@ -108,7 +98,7 @@ fn cut(
     length: usize,
     multiple: usize,
 ) -> Plan
-    requires { ⌜ InRange length multiple × Room list (now lists) × (at + grains < grainsOf 8 (now a)) × (listOf grains ≡ list) × (wantedOf length multiple ≤ grains) × Leads (now a) next ⌝ }
+    requires { ⌜ Demand length multiple × Room list (now lists) × (at + grains < grainsOf 8 (now a)) × (listOf grains ≡ list) × (wantedOf length multiple ≤ grains) × Leads (now a) next ⌝ }
     ensures { λ r. ⌜ Cuts (now (a .entry)) (now (lists .entry)) list at grains next length multiple r ⌝ }
 {
     let place = request::place_of(multiple, at);

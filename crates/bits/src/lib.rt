@@ -13,7 +13,10 @@ ghost use Rattle.bits.specs.Map.{mapWords, lists, mapBit, markBit, unmar
 const BITS: usize = 64;
 
 // The lists that the map has a bit for; as an answer, none of them.
-const LISTS: usize = 192;
+pub const LISTS: usize = 192;
+
+// The words of the map. In the table of the lists the heads stand behind them.
+pub const MAP_WORDS: usize = 3;
 
 // ---- a word
 

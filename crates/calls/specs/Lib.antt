@@ -1,3 +1,12 @@
 -- The calls as callers make them. Read Bytes first, then Performs, then Promises.
 pub mod Bytes
 pub mod Performs
+pub mod Storable
+pub mod Refines
+pub mod Begins
+pub mod Untouched
+pub mod Runs
+pub mod One
+pub mod Conditions
+pub mod Damage
+pub mod Promises

@@ -43,14 +43,23 @@ mostOf S = (length (S .regions) - 1) / 2
 abbrev pub outcome : Slices → Call → Result Plan
 outcome S K = run (memoryOf 8 S) (scriptOf (grainsOf S) 12 (mostOf S) K)
 
+-- refused before the heap is looked at
+pub data Early (S : Slices) (k : ByteCall) : ℕ → Type 0 where
+  short : (Long S k → ⊥) → Early S k 6
+  wrong : (i : ℕ) → Long S k → Wrong k i → Early S k i
+  outside : (K : Call) → Long S k → Asks k K → (Inside (grainsOf S) K → ⊥) → Early S k 3
+
+-- the call goes on to ask for K
+pub record Goes (S : Slices) (k : ByteCall) (K : Call) : Type 0 where
+  pub long : Long S k
+  pub asks : Asks k K
+  pub inside : Inside (grainsOf S) K
+
 -- the reply, and the slices afterwards: a refusal leaves them as they were, and else exactly the plan's writes are stored
 pub data Performs (S : Slices) (k : ByteCall) : Reply → Slices → Type 0 where
-  short : (Long S k → ⊥) → Performs S k (not 6) S
-  wrong : (i : ℕ) → Long S k → Wrong k i → Performs S k (not i) S
-  outside : (K : Call) → Long S k → Asks k K → (Inside (grainsOf S) K → ⊥) → Performs S k (not 3) S
-  refused : (K : Call) (i : ℕ) → Long S k → Asks k K → Inside (grainsOf S) K → outcome S K ≡ no i → Performs S k (not i) S
-  granted : (K : Call) (p : Plan) → Long S k → Asks k K → Inside (grainsOf S) K → outcome S K ≡ ok p
-      → Performs S k (yes (bytes k (p .answer))) (stores 8 S (p .writes))
+  early : (i : ℕ) → Early S k i → Performs S k (not i) S
+  refused : (K : Call) (i : ℕ) → Goes S k K → outcome S K ≡ no i → Performs S k (not i) S
+  granted : (K : Call) (p : Plan) → Goes S k K → outcome S K ≡ ok p → Performs S k (yes (bytes k (p .answer))) (stores 8 S (p .writes))
 
 -- the same of the definition's heap
 pub data Defines (h : Heap) (k : ByteCall) : Reply → Heap → Type 0 where

@@ -7,13 +7,9 @@ ghost use Rattle.slices.specs.Decode.{grains};
 ghost use Rattle.free_list.specs.Lent.{Room, Leads, link};
 ghost use Rattle.free_list.specs.Written.{Written};
 ghost use Rattle.carve.specs.Made.{WrittenInArena, leftBehind};
-
-// The words of a header.
-const SIZE: usize = 0;
-
-const BEFORE: usize = 1;
-
-const PREV: usize = 3;
+use header::BEFORE;
+use header::PREV;
+use header::SIZE;
 
 // The block of t grains at x is in use.
 pub fn put_whole(a: &mut [u8], x: usize, t: usize)

@@ -1,7 +1,7 @@
 -- Tests on numbers as functions (`ifEq`, `ifLe`), and the function that differs from another at one place (`upd`).
 -- All three are shut: a proof goes by their laws, so that a goal shows the choice and not how it is made.
-use Prim.Native.Nat.{ℕ, zero, suc, _≤_, _<_}
-use mathlib.Core.Path.{_≡_, refl, sym, subst, _∙_, ap}
+use Prim.Native.Nat.{ℕ, zero, _≤_, _<_}
+use mathlib.Core.Path.{_≡_, sym, subst}
 use mathlib.Core.Logic.{ite, if-pos, if-neg, _⊎_, inl, inr, ⊎-elim}
 use native.Mathlib.Decide.{ℕ-discrete, decLe}
 use native.Mathlib.Omega.{arith}
@@ -82,10 +82,3 @@ upd-pair P f g k v w a b j = ⊎-elim
     (λ e. subst (λ x. P x (upd g k w j)) (sym (upd-same f k v j e)) (subst (λ x. P v x) (sym (upd-same g k w j e)) a))
     (λ n. subst (λ x. P x (upd g k w j)) (sym (upd-other f k v j n)) (subst (λ x. P (f j) x) (sym (upd-other g k w j n)) (b j n)))
     (same? j k)
-
--- the later change counts
-pub upd-twice {ℓ} : {A : Type ℓ} (f : ℕ → A) (x : ℕ) (a b : A) (y : ℕ) → upd f x b y ≡ upd (upd f x a) x b y
-upd-twice f x a b y = ⊎-elim
-    (λ e. upd-same f x b y e ∙ sym (upd-same (upd f x a) x b y e))
-    (λ n. upd-other f x b y n ∙ sym (upd-other (upd f x a) x b y n ∙ upd-other f x a y n))
-    (same? y x)

@@ -13,11 +13,11 @@ use Rattle.sound.specs.Checks.{Entry, Owner, Beside, mustList, seeHead, seeBehi
 use Rattle.sound.specs.Links.{unlinkWrites, pushWrites}
 use Rattle.sound.specs.Plans.{roomOf, leaves, afterwards, bothLeave, freeWrites, joinScript, giveBackScript}
 use Rattle.slices.specs.Decode.{grains}
-use Rattle.free_list.specs.Lent.{link}
-use Rattle.free_list.specs.Back.{answer}
+use Rattle.free_list.specs.Lent.{held, classes, link}
+use Rattle.free_list.specs.Answers.{answer, unless}
 use Rattle.free_list.specs.Seen.{shownHead}
 use Rattle.free_list.specs.declared.Head.{Head}
-use Rattle.neighbours.specs.Shown.{classes, held, unless, shownOwner, someone, shownBeside}
+use Rattle.neighbours.specs.Shown.{shownOwner, someone, shownBeside}
 use Rattle.neighbours.specs.declared.Owner.{Owner as OwnerAnswer}
 use Rattle.neighbours.specs.declared.Beside.{Beside as BesideAnswer}
 use Rattle.deallocate.specs.declared.Neighbour.{Neighbour}

@@ -11,8 +11,8 @@ use Rattle.sound.specs.Checks.{seeBehind, seeBefore}
 use Rattle.sound.specs.Links.{pushWrites}
 use Rattle.sound.specs.Plans.{Plan, roomOf, bothLeave, freeWrites, joinScript, giveBackScript}
 use Rattle.slices.specs.Decode.{grains}
-use Rattle.free_list.specs.Lent.{link, Leads}
-use Rattle.neighbours.specs.Shown.{classes, held, unless}
+use Rattle.free_list.specs.Lent.{held, classes, link, Leads}
+use Rattle.free_list.specs.Answers.{unless, unless-no}
 use Rattle.deallocate.specs.declared.Neighbour.{Neighbour}
 use Rattle.deallocate.specs.declared.Plan.{Plan as PlanAnswer}
 use Rattle.deallocate.specs.After.{leaving}
@@ -33,14 +33,10 @@ abbrev pub shown : List ℕ → ℕ → PlanAnswer → Result Plan
 shown a q r = unless (r .refusal) (record { answer = 0; moved = 0; writes = backWrites a q r })
 
 pub shown-refused : (a : List ℕ) (q w : ℕ) (r : PlanAnswer) → r .refusal ≡ w → (w ≡ 0 → ⊥) → shown a q r ≡ no w
-shown-refused a q w r e n = ap (λ (u : ℕ). unless u p) e ∙ go w n
+shown-refused a q w r e n = ap (λ (u : ℕ). unless u p) e ∙ unless-no w p n
   where
     p : Plan
     p = record { answer = 0; moved = 0; writes = backWrites a q r }
-
-    go : (w : ℕ) → (w ≡ 0 → ⊥) → unless w p ≡ no w
-    go zero n = absurd (n refl)
-    go (suc w) n = refl
 
 pub shown-damaged : (a : List ℕ) (q : ℕ) (r : PlanAnswer) → r .refusal ≡ 5 → shown a q r ≡ no 5
 shown-damaged a q r e = shown-refused a q 5 r e (λ q. omega arith)

@@ -17,10 +17,10 @@ use Rattle.sound.specs.Checked.{EntryChecked, behind-checked, before-checked, o
 use Rattle.slices.specs.Decode.{grains, Inside}
 use Rattle.slices.specs.Arena.{size-inside}
 use Rattle.slices.specs.Slices.{memory-size}
-use Rattle.free_list.specs.Lent.{lent, noLink, link, Leads}
-use Rattle.free_list.specs.Back.{answer}
+use Rattle.free_list.specs.Lent.{lent, held, classes, noLink, link, Leads}
+use Rattle.free_list.specs.Answers.{answer, unless}
 use Rattle.free_list.specs.Leading.{leads-valid}
-use Rattle.neighbours.specs.Shown.{classes, held, unless, shownOwner, someone, shownBeside}
+use Rattle.neighbours.specs.Shown.{shownOwner, someone, shownBeside}
 use Rattle.neighbours.specs.declared.Owner.{Owner as OwnerAnswer}
 use Rattle.neighbours.specs.declared.Beside.{Beside as BesideAnswer}
 use Rattle.deallocate.specs.After.{relinked, headed}

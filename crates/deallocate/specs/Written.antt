@@ -13,10 +13,8 @@ use Rattle.sound.specs.Links.{unlinkWrites, pushWrites}
 use Rattle.sound.specs.Plans.{freeWrites}
 use Rattle.slices.specs.Decode.{grains, sizeWord, free-stored}
 use Rattle.slices.specs.Arena.{putSize, putLink}
-use Rattle.slices.specs.Slices.{Slices, stores}
-use Rattle.slices.specs.Kept.{stores-append}
 use Rattle.free_list.specs.Lent.{lent, link, link-keep, leads-keep, grain-stored}
-use Rattle.free_list.specs.Written.{Written, written-none, written-then, written-as, written-length}
+use Rattle.free_list.specs.Written.{Written, WrittenLive, live-then, written-none, written-then, written-as, written-length}
 use Rattle.deallocate.specs.declared.Neighbour.{Neighbour}
 use Rattle.deallocate.specs.declared.Plan.{Plan as PlanAnswer}
 use Rattle.deallocate.specs.After.{leaving}
@@ -81,23 +79,7 @@ freed-words a b c z t u w s h d e f g =
 
 -- ---- all
 
--- the slices into which the writes w were stored; the regions stay, whatever they are
-pub record Returned (a l v : List ℕ) (w : List Write) (b m o : List ℕ) : Type 0 where
-  pub arena : (t : List ℕ) → b ≡ stores 8 (lent a l v t) w .arena
-  pub lists : (t : List ℕ) → m ≡ stores 8 (lent a l v t) w .lists
-  pub live : (t : List ℕ) → o ≡ stores 8 (lent a l v t) w .live
-  pub slices : (t : List ℕ) → record { arena = b; lists = m; live = o; regions = t } ≡ stores 8 (lent a l v t) w
-
-pub returned : (q z t : ℕ) (w : List Write) {a l b m c v o : List ℕ} → Written a l w b m → c ≡ freed b z t → o ≡ clearTableBit v q → Returned a l v (w ++ freeWrites q z t) c m o
-returned q z t w {a} {l} {b} {m} {c} {v} {o} f e d = record {
-  arena = λ u. ap (λ (S : Slices). S .arena) (all u);
-  lists = λ u. ap (λ (S : Slices). S .lists) (all u);
-  live = λ u. ap (λ (S : Slices). S .live) (all u);
-  slices = all;
-}
-  where
-    all : (u : List ℕ) → lent c m o u ≡ stores 8 (lent a l v u) (w ++ freeWrites q z t)
-    all u =
-        ap (λ (x : List ℕ). lent x m o u) e
-        ∙ ap (λ (x : List ℕ). lent (freed b z t) m x u) (d ∙ sym (eq-yes 0 0 (clearTableBit v q) (setTableBit v q) refl))
-        ∙ ap (λ (S : Slices). stores 8 S (freeWrites q z t)) (f .slices v u) ∙ sym (stores-append 8 (lent a l v u) w (freeWrites q z t))
+-- and its payload not live any more
+pub returned : (q z t : ℕ) (w : List Write) {a l b m c v o : List ℕ} → Written a l w b m → c ≡ freed b z t → o ≡ clearTableBit v q → WrittenLive a l v (w ++ freeWrites q z t) c m o
+returned q z t w {b = b} {m = m} {v = v} {o = o} f e d = live-then {p = w} (freeWrites q z t) f (λ u.
+    ap (λ (x : List ℕ). lent x m o u) e ∙ ap (λ (x : List ℕ). lent (freed b z t) m x u) (d ∙ sym (eq-yes 0 0 (clearTableBit v q) (setTableBit v q) refl)))

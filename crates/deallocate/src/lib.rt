@@ -5,22 +5,15 @@ ghost use Prim.Native.Nat.{_+_, _*_, _≤_, _<_};
 ghost use lib.ListN.{length};
 ghost use Rattle.sound.specs.Plans.{joinScript};
 ghost use Rattle.slices.specs.Decode.{grains};
-ghost use Rattle.neighbours.specs.Shown.{classes, Long};
-ghost use Rattle.free_list.specs.Written.{Written};
+ghost use Rattle.free_list.specs.Written.{Written, WrittenLive};
+ghost use Rattle.free_list.specs.Lent.{classes, Long};
 ghost use Rattle.deallocate.specs.After.{relinked, headed};
 ghost use Rattle.deallocate.specs.Shown.{leavingOf, bothLeaving, backWrites, Known, Able, Planned, BackPlanned, mergeScript, listed};
-ghost use Rattle.deallocate.specs.Written.{freed, Returned};
-
-// The fields of a header that say how large a block is, and which block is before.
-const SIZE: usize = 0;
-
-const BEFORE: usize = 1;
-
-// A link that leads nowhere.
-const NONE: u64 = 18446744073709551615;
-
-// How many lists there are.
-const LISTS: usize = 192;
+ghost use Rattle.deallocate.specs.Written.{freed};
+use bits::LISTS;
+use header::BEFORE;
+use header::NONE;
+use header::SIZE;
 
 // The records contradict each other.
 const DAMAGED: u64 = 5;
@@ -212,7 +205,7 @@ fn head_after(g: usize, k: usize, x: u64, p: u64, j: usize, h: u64) -> u64
 // What was planned for the payload at q.
 pub fn apply_back(a: &mut [u8], lists: &mut [u64], live: &mut [u64], q: usize, p: Plan)
     requires { ⌜ Able (now a) p × Long (now lists) × (q < 64 * length (now live)) ⌝ }
-    ensures { λ r. ⌜ Returned (now (a .entry)) (now (lists .entry)) (now (live .entry)) (backWrites (now (a .entry)) q p)
+    ensures { λ r. ⌜ WrittenLive (now (a .entry)) (now (lists .entry)) (now (live .entry)) (backWrites (now (a .entry)) q p)
         (now (a .exit)) (now (lists .exit)) (now (live .exit)) ⌝ }
 {
     leave(a, lists, p.behind);

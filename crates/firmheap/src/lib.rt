@@ -1,9 +1,23 @@
 // The heap's calls. The caller lends the arena and its tables; whatever is in them and whatever the numbers are, each call
 // returns, stays inside the slices, and does its work or refuses with a number; a refusal changes nothing. What is promised
 // of each is one record, in crates/calls/specs/Promises.antt.
+ghost use mathlib.Core.Path.{_≡_};
+ghost use lib.ListN.{length as lengthOf};
+ghost use Rattle.tables.specs.Length.{LongEnough};
+ghost use Rattle.allocate.specs.Demand.{Demand};
+ghost use Rattle.firmheap.specs.Replies.{taken, done, given, laid};
+ghost use Rattle.firmheap.specs.Contracts.{Allocates, Deallocates, Takes, GivesBack, Initialises, Inserts, Appends};
+ghost use Rattle.firmheap.specs.Give.{Lays, following};
 
-// The bytes of half a grain, in which payloads are counted.
+// The bytes of half a grain, in which payloads are counted, and of a grain.
 const HALF: usize = 16;
+
+const GRAIN: usize = 32;
+
+// Whether a region must begin where another ended.
+const ANYWHERE: usize = 0;
+
+const BEHIND: usize = 1;
 
 // Refusals that are decided here: an alignment or a size is out of range; no live payload is there; a table is too short.
 const OUT_OF_RANGE: u64 = 2;
@@ -24,6 +38,18 @@ pub enum Done {
     Refused(u64),
 }
 
+// The bytes used of a region, counted from its given start, or why there are none.
+pub enum Given {
+    Bytes(usize),
+    Refused(u64),
+}
+
+// The same in grains, from its first grain on.
+enum Laid {
+    Grains(usize),
+    Refused(u64),
+}
+
 // ---- take
 
 // A payload of `size` bytes at a multiple of `align`.
@@ -34,6 +60,8 @@ pub fn allocate(
     size: usize,
     align: usize,
 ) -> Taken
+    ensures { λ r. ⌜ Allocates (now (arena .entry)) (now (lists .entry)) (now (live .entry)) size align (taken r)
+        (now (arena .exit)) (now (lists .exit)) (now (live .exit)) ⌝ }
 {
     if !tables::long_enough(arena.len(), lists.len(), live.len()) {
         return Taken::Refused(TOO_SHORT);
@@ -53,6 +81,9 @@ fn take(
     length: usize,
     multiple: usize,
 ) -> Taken
+    requires { ⌜ Demand length multiple × LongEnough (lengthOf (now arena)) (lengthOf (now lists)) (lengthOf (now live)) ⌝ }
+    ensures { λ r. ⌜ Takes (now (arena .entry)) (now (lists .entry)) (now (live .entry)) length multiple (taken r)
+        (now (arena .exit)) (now (lists .exit)) (now (live .exit)) ⌝ }
 {
     let p = allocate::plan_take(arena, lists, length, multiple);
     if p.refusal != 0 {
@@ -84,6 +115,8 @@ pub fn deallocate(
     payload: usize,
     align: usize,
 ) -> Done
+    ensures { λ r. ⌜ Deallocates (now (arena .entry)) (now (lists .entry)) (now (live .entry)) payload align (done r)
+        (now (arena .exit)) (now (lists .exit)) (now (live .exit)) ⌝ }
 {
     if !tables::long_enough(arena.len(), lists.len(), live.len()) {
         return Done::Refused(TOO_SHORT);
@@ -97,6 +130,9 @@ pub fn deallocate(
 
 // The payload at q, counted in half grains.
 fn give_back(arena: &mut [u8], lists: &mut [u64], live: &mut [u64], q: usize) -> Done
+    requires { ⌜ LongEnough (lengthOf (now arena)) (lengthOf (now lists)) (lengthOf (now live)) ⌝ }
+    ensures { λ r. ⌜ GivesBack (now (arena .entry)) (now (lists .entry)) (now (live .entry)) q (done r)
+        (now (arena .exit)) (now (lists .exit)) (now (live .exit)) ⌝ }
 {
     if header::count(arena) <= q / 2 {
         return Done::Refused(NOT_LIVE);
@@ -109,10 +145,87 @@ fn give_back(arena: &mut [u8], lists: &mut [u64], live: &mut [u64], q: usize) ->
     Done::Yes
 }
 
+// ---- giving a region
+
+// `len` bytes from the offset `start` on: the whole grains among them.
+pub fn insert_free_block(
+    arena: &mut [u8],
+    lists: &mut [u64],
+    regions: &mut [u64],
+    start: usize,
+    len: usize,
+) -> Given
+    ensures { λ r. ⌜ Inserts (now (arena .entry)) (now (lists .entry)) (now (regions .entry)) start len (given r)
+        (now (arena .exit)) (now (lists .exit)) (now (regions .exit)) ⌝ }
+{
+    let g = request::first_grain(start);
+    let n = request::whole_grains(start, len);
+    match lay(arena, lists, regions, ANYWHERE, g, n) {
+        Laid::Grains(s) => Given::Bytes(request::bytes_before(start) + GRAIN * s),
+        Laid::Refused(i) => Given::Refused(i),
+    }
+}
+
+// `len` bytes from the offset `start` on, where another region ended.
+pub fn append_free_block(
+    arena: &mut [u8],
+    lists: &mut [u64],
+    regions: &mut [u64],
+    start: usize,
+    len: usize,
+) -> Given
+    ensures { λ r. ⌜ Appends (now (arena .entry)) (now (lists .entry)) (now (regions .entry)) start len (given r)
+        (now (arena .exit)) (now (lists .exit)) (now (regions .exit)) ⌝ }
+{
+    let n = following_grains(start, len);
+    match lay(arena, lists, regions, BEHIND, start / GRAIN, n) {
+        Laid::Grains(s) => Given::Bytes(GRAIN * s),
+        Laid::Refused(i) => Given::Refused(i),
+    }
+}
+
+// The grains of `len` bytes that follow a region which ended at `start`: inside a grain none ends, and none follows.
+fn following_grains(start: usize, len: usize) -> usize
+    ensures { λ r. ⌜ r ≡ following start len ⌝ }
+{
+    if start % GRAIN == 0 {
+        return len / GRAIN;
+    }
+    0
+}
+
+// `len` grains from grain g on.
+fn lay(
+    arena: &mut [u8],
+    lists: &mut [u64],
+    regions: &mut [u64],
+    behind: usize,
+    g: usize,
+    len: usize,
+) -> Laid
+    ensures { λ r. ⌜ Lays (now (arena .entry)) (now (lists .entry)) (now (regions .entry)) behind g len (laid r)
+        (now (arena .exit)) (now (lists .exit)) (now (regions .exit)) ⌝ }
+{
+    if lists.len() < tables::lists_length() {
+        return Laid::Refused(TOO_SHORT);
+    }
+    if regions.len() == 0 {
+        return Laid::Refused(TOO_SHORT);
+    }
+    let p = give::plan_region(arena, lists, regions, behind, g, len);
+    if p.refusal != 0 {
+        return Laid::Refused(p.refusal as u64);
+    }
+    give::apply_region(arena, lists, regions, p);
+    Laid::Grains(p.used)
+}
+
 // ---- an empty heap
 
 // Makes the lent tables those of a heap to which nothing was given.
 pub fn init(arena: &[u8], lists: &mut [u64], live: &mut [u64], regions: &mut [u64]) -> Done
+    ensures { λ r. ⌜ Initialises (now (arena .entry)) (now (lists .entry)) (now (live .entry)) (now (regions .entry)) (done r)
+        (now (lists .exit)) (now (live .exit)) (now (regions .exit)) ⌝ }
 {
     if !tables::long_enough(arena.len(), lists.len(), live.len()) {
         return Done::Refused(TOO_SHORT);

@@ -10,23 +10,15 @@ use lib.ListN.{length}
 use Rattle.choice.specs.Choice.{eq-yes, eq-no, le?}
 use Rattle.choice.specs.Says.{Says}
 use Rattle.script.specs.Memory.{Memory, Next, Prev, none}
-use Rattle.script.specs.Script.{Result, ok, no, run, _>>_, goes, halts, reads, gives-done, gives-eq, gives-le, halts-eq, halts-le}
+use Rattle.script.specs.Script.{ok, no, run, _>>_, goes, halts, reads, gives-done, gives-eq, gives-le, halts-eq, halts-le}
 use Rattle.sound.specs.Checks.{mustGrain, mustLead, mustBack}
 use Rattle.slices.specs.Decode.{grains, wrongLink}
 use Rattle.slices.specs.Arena.{linkAt, link-in}
 use Rattle.slices.specs.Heads.{next-grain}
-use Rattle.slices.specs.Slices.{memoryOf, memory-next, memory-prev}
+use Rattle.slices.specs.Slices.{memory-next, memory-prev}
 use Rattle.header.specs.Turned.{turned}
-use Rattle.free_list.specs.Lent.{lent, noLink, link, below-none, link-none, link-some, link-grain, link-past}
-
--- x where a check passed, else refusal 5
-abbrev pub answer : {A : Type 0} → Bool → A → Result A
-answer true x = ok x
-answer false x = no 5
-
--- a check that answers nothing more
-abbrev pub told : Bool → Result (Unit {0})
-told r = answer r (tt {0})
+use Rattle.free_list.specs.Lent.{lent, held, noLink, link, below-none, link-none, link-some, link-grain, link-past}
+use Rattle.free_list.specs.Answers.{told}
 
 abbrev pub Back : List ℕ → ℕ → ℕ → ℕ → Type 0
 Back a f x y = (x ≡ noLink) ⊎ ((turned x < grains 8 a) × (linkAt 8 a f 0 (turned x) ≡ y))
@@ -48,12 +40,12 @@ module _ (a : List ℕ) (f x y g : ℕ) (ne : x ≡ noLink → ⊥) (e : g ≡ t
 abbrev pub Reading : Memory → List ℕ → ℕ → Type 0
 Reading m a f = (g : ℕ) → g < grains 8 a → m f g ≡ linkAt 8 a f 0 g
 
-pub reading-next : (a l v t : List ℕ) → length a < 18446744073709551616 → Reading (memoryOf 8 (lent a l v t)) a Next
+pub reading-next : (a l v t : List ℕ) → length a < 18446744073709551616 → Reading (held a l v t) a Next
 reading-next a l v t s g h =
     memory-next 8 (lent a l v t) g ∙ next-grain 8 a l g (omega (arith, below-none a s))
     ∙ link-in 8 a g Next none h ∙ sym (link-in 8 a g Next 0 h)
 
-pub reading-prev : (a l v t : List ℕ) → Reading (memoryOf 8 (lent a l v t)) a Prev
+pub reading-prev : (a l v t : List ℕ) → Reading (held a l v t) a Prev
 reading-prev a l v t g h = memory-prev 8 (lent a l v t) g ∙ link-in 8 a g Prev wrongLink h ∙ sym (link-in 8 a g Prev 0 h)
 
 -- ---- as the check finds it

@@ -19,10 +19,11 @@ use Rattle.script.specs.Script.{Script, ok, no, run, done, _>>_, mustEq, goes, 
 use Rattle.sound.specs.Checks.{mustGrain, mustLead, seeHead}
 use Rattle.slices.specs.Decode.{grains}
 use Rattle.slices.specs.Arena.{link-in}
-use Rattle.slices.specs.Slices.{memoryOf, memory-mark}
+use Rattle.slices.specs.Slices.{memory-mark}
 use Rattle.header.specs.Turned.{turned}
-use Rattle.free_list.specs.Lent.{lent, noLink, link, link-none, link-some, link-grain, link-past}
-use Rattle.free_list.specs.Back.{answer, told, reading-prev}
+use Rattle.free_list.specs.Lent.{lent, held, noLink, link, link-none, link-some, link-grain, link-past}
+use Rattle.free_list.specs.Answers.{answer, told}
+use Rattle.free_list.specs.Back.{reading-prev}
 use Rattle.free_list.specs.Seen.{SeenHead, head-read}
 
 -- what is checked of the head h of a list whose mark is b
@@ -37,13 +38,13 @@ either n h b = ifEq h none (mustEq b 0) (checked n h b)
 
 module _ (a l : List ℕ) (k h : ℕ) (s : length a < 18446744073709551616) (j : k < lists) (headIs : h ≡ entry l (mapWords + k)) where
   -- the answer of the checks is the answer
-  from-checks : (r : Bool) → ((v t : List ℕ) → told r ≡ run (memoryOf 8 (lent a l v t)) (either (grains 8 a) (link a h) (mapBit l k))) → SeenHead a l k (record { ok = r; word = h })
+  from-checks : (r : Bool) → ((v t : List ℕ) → told r ≡ run (held a l v t) (either (grains 8 a) (link a h) (mapBit l k))) → SeenHead a l k (record { ok = r; word = h })
   unfolding seeHead
   from-checks r w v t =
       go r (w v t) ∙ sym (reads m Next (root k) _ (head-read a l v t k h j headIs) ∙ reads m Mark k _ (memory-mark 8 (lent a l v t) k))
     where
       m : Memory
-      m = memoryOf 8 (lent a l v t)
+      m = held a l v t
 
       c : Script (Unit {0})
       c = either (grains 8 a) (link a h) (mapBit l k)
@@ -54,7 +55,7 @@ module _ (a l : List ℕ) (k h : ℕ) (s : length a < 18446744073709551616) (j :
 
   -- an empty list
   pub headed-empty : h ≡ noLink → (b : Bool) → Says (mapBit l k ≡ 1) b → SeenHead a l k (record { ok = not b; word = h })
-  headed-empty e b w = from-checks (not b) (λ v t. go (memoryOf 8 (lent a l v t)) b w)
+  headed-empty e b w = from-checks (not b) (λ v t. go (held a l v t) b w)
     where
       go : (m : Memory) (b : Bool) → Says (mapBit l k ≡ 1) b → told (not b) ≡ run m (either (grains 8 a) (link a h) (mapBit l k))
       go m true q = sym (ap (run m) (eq-yes (link a h) none _ _ (link-none a h s e)) ∙ halts-eq m 5 (mapBit l k) 0 (λ z. omega arith))
@@ -73,7 +74,7 @@ module _ (a l : List ℕ) (k h : ℕ) (s : length a < 18446744073709551616) (j :
     inside m q = goes m (mustGrain (grains 8 a) (link a h)) _ (gives-le m 5 (suc (link a h)) (grains 8 a) (omega (arith, link-grain a h s q)))
 
     pub headed-unmarked : (mapBit l k ≡ 1 → ⊥) → SeenHead a l k (record { ok = false; word = h })
-    headed-unmarked n = from-checks false (λ v t. sym (go (memoryOf 8 (lent a l v t))))
+    headed-unmarked n = from-checks false (λ v t. sym (go (held a l v t)))
       where
         go : (m : Memory) → run m (either (grains 8 a) (link a h) (mapBit l k)) ≡ no 5
         go m = past m ∙ ⊎-elim (λ (q : grains 8 a ≤ turned h). outside m q)
@@ -81,11 +82,11 @@ module _ (a l : List ℕ) (k h : ℕ) (s : length a < 18446744073709551616) (j :
             (le? (grains 8 a) (turned h))
 
     pub headed-outside : (g : ℕ) → g ≡ turned h → grains 8 a ≤ g → SeenHead a l k (record { ok = false; word = h })
-    headed-outside g e q = from-checks false (λ v t. sym (past (memoryOf 8 (lent a l v t)) ∙ outside (memoryOf 8 (lent a l v t)) (omega arith)))
+    headed-outside g e q = from-checks false (λ v t. sym (past (held a l v t) ∙ outside (held a l v t) (omega arith)))
 
     -- the head is the grain g, and the word w says what is before it
     pub headed-first : mapBit l k ≡ 1 → (g w : ℕ) → g ≡ turned h → g < grains 8 a → w ≡ wordAt 8 a (4 * g + Prev) → SeenHead a l k (record { ok = eqb w noLink; word = h })
-    headed-first o g w e q c = from-checks (eqb w noLink) (λ v t. go (memoryOf 8 (lent a l v t)) (reading-prev a l v t g q ∙ link-in 8 a g Prev 0 q ∙ ap (link a) (sym c)))
+    headed-first o g w e q c = from-checks (eqb w noLink) (λ v t. go (held a l v t) (reading-prev a l v t g q ∙ link-in 8 a g Prev 0 q ∙ ap (link a) (sym c)))
       where
         go : (m : Memory) → m Prev g ≡ link a w → told (eqb w noLink) ≡ run m (either (grains 8 a) (link a h) (mapBit l k))
         go m r = ⊎-elim

@@ -5,21 +5,20 @@ use native.Mathlib.Omega.{arith}
 use mathlib.Core.Path.{_≡_, ap, sym, _∙_}
 use mathlib.Core.Bool.{Bool, true}
 use mathlib.Core.List.{List, []}
-use mathlib.Core.Logic.{_⊎_, inl, inr, ⊎-elim}
+use mathlib.Core.Logic.{inl, inr, ⊎-elim}
 use lib.ListN.{length}
 use Rattle.choice.specs.Choice.{same?, le?}
-use Rattle.script.specs.Memory.{Memory, none}
+use Rattle.script.specs.Memory.{Memory}
 use Rattle.script.specs.Script.{Gives}
 use Rattle.sound.specs.Checks.{seeEntry, seeHead}
 use Rattle.sound.specs.Checks.{Entry as Neighbours}
 use Rattle.sound.specs.Checked.{entry-checked, head-checked}
 use Rattle.slices.specs.Decode.{ValidLink, grains}
-use Rattle.slices.specs.Slices.{memoryOf}
 use Rattle.header.specs.Turned.{turned}
 use Rattle.free_list.specs.declared.Entry.{Entry}
 use Rattle.free_list.specs.declared.Head.{Head}
-use Rattle.free_list.specs.Lent.{lent, noLink, link, Leads, link-some, link-past}
-use Rattle.free_list.specs.Back.{answer}
+use Rattle.free_list.specs.Lent.{held, noLink, link, Leads, link-some, link-past}
+use Rattle.free_list.specs.Answers.{answer}
 use Rattle.free_list.specs.Seen.{SeenEntry, SeenHead}
 
 -- a word that says none or a grain
@@ -37,7 +36,7 @@ entry-leads a l k y r s h o =
     )
   where
     m : Memory
-    m = memoryOf 8 (lent a l [] [])
+    m = held a l [] []
 
     e : Neighbours
     e = record { next = link a (r .next); prev = link a (r .prev) }
@@ -50,4 +49,4 @@ head-leads a l k r s h o =
     leads-valid a (r .word) s (⊎-elim (λ q. inl (q .0)) (λ q. inr (q .0)) (c .marked))
   where
     m : Memory
-    m = memoryOf 8 (lent a l [] [])
+    m = held a l [] []

@@ -8,19 +8,31 @@ use lib.ListN.{length}
 use Rattle.choice.specs.Choice.{eq-yes, eq-no, eq-case, le-case}
 use Rattle.word.specs.Word.{putAt, put-at-length}
 use Rattle.bits.specs.Map.{mapWords, lists}
-use Rattle.script.specs.Memory.{none}
+use Rattle.script.specs.Memory.{Memory, none}
 use Rattle.slices.specs.Decode.{linkOf, linkWord, grains, topOf, grains-keep}
-use Rattle.slices.specs.Slices.{Slices}
+use Rattle.slices.specs.Slices.{Slices, memoryOf}
 use Rattle.header.specs.Turned.{turned, grains-few, turned-in, turned-out}
 use Rattle.header.specs.Told.{link-leads}
 
 abbrev pub lent : List ℕ → List ℕ → List ℕ → List ℕ → Slices
 lent a l v t = record { arena = a; lists = l; live = v; regions = t }
 
--- the table l has a place for the head of list k, and for all others
+-- the memory that they are read as
+abbrev pub held : List ℕ → List ℕ → List ℕ → List ℕ → Memory
+held a l v t = memoryOf 8 (lent a l v t)
+
+-- the first-level classes, of 16 lists each
+abbrev pub classes : ℕ
+classes = 12
+
+-- the table of the lists has a place for each head
+abbrev pub Long : List ℕ → Type 0
+Long l = mapWords + lists ≤ length l
+
+-- and k is one of the lists
 pub record Room (k : ℕ) (l : List ℕ) : Type 0 where
   pub known : k < lists
-  pub room : mapWords + lists ≤ length l
+  pub room : Long l
 
 -- the word for none
 abbrev pub noLink : ℕ

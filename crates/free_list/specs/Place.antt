@@ -15,15 +15,15 @@ use Rattle.script.specs.Memory.{Memory, Next, none}
 use Rattle.script.specs.Script.{Script, mustDiffer, ok, no, run, _>>_, goes, halts, gives-eq, gives-le, gives-differ, halts-eq, halts-le, halts-differ}
 use Rattle.sound.specs.Checks.{mustGrain, mustLead, seePrev}
 use Rattle.slices.specs.Decode.{grains}
-use Rattle.slices.specs.Slices.{memoryOf}
 use Rattle.header.specs.Turned.{turned, grains-few}
 use Rattle.header.specs.Told.{link-leads, link-only}
-use Rattle.free_list.specs.Lent.{lent, noLink, link, link-none, link-some, link-grain, link-past}
-use Rattle.free_list.specs.Back.{told, Back, reading-next, back-told}
+use Rattle.free_list.specs.Lent.{held, noLink, link, link-none, link-some, link-grain, link-past}
+use Rattle.free_list.specs.Answers.{told}
+use Rattle.free_list.specs.Back.{Back, reading-next, back-told}
 
 -- p is before y in a list of the arena a whose head is h: the code's answer r is that of the check
 abbrev pub Placed : List ℕ → ℕ → ℕ → ℕ → Bool → Type 0
-Placed a h y p r = (l v t : List ℕ) → told r ≡ run (memoryOf 8 (lent a l v t)) (seePrev (grains 8 a) (link a h) y (link a p))
+Placed a h y p r = (l v t : List ℕ) → told r ≡ run (held a l v t) (seePrev (grains 8 a) (link a h) y (link a p))
 
 -- what is checked where something is before y
 abbrev behindHead : ℕ → ℕ → ℕ → ℕ → Script (Unit {0})
@@ -43,7 +43,7 @@ module _ (a : List ℕ) (h y p : ℕ) (s : length a < 18446744073709551616) (i :
 
   -- nothing is before y
   pub placed-first : p ≡ noLink → (b : ℕ) → b ≡ 32 * y → Placed a h y p (eqb h b)
-  placed-first z b e l v t = go (memoryOf 8 (lent a l v t))
+  placed-first z b e l v t = go (held a l v t)
     where
       go : (m : Memory) → told (eqb h b) ≡ run m (seePrev (grains 8 a) (link a h) y (link a p))
       go m = ⊎-elim
@@ -60,7 +60,7 @@ module _ (a : List ℕ) (h y p : ℕ) (s : length a < 18446744073709551616) (i :
 
     -- the head is no grain
     pub placed-headless : grains 8 a ≤ g → Placed a h y p false
-    placed-headless q l v t = sym (go (memoryOf 8 (lent a l v t)))
+    placed-headless q l v t = sym (go (held a l v t))
       where
         go : (m : Memory) → run m (seePrev (grains 8 a) (link a h) y (link a p)) ≡ no 5
         go m = past m ∙ halts m (mustGrain (grains 8 a) (link a h)) _ (halts-le m 5 (suc (link a h)) (grains 8 a) (omega (arith, link-past a h s (omega arith))))
@@ -71,14 +71,14 @@ module _ (a : List ℕ) (h y p : ℕ) (s : length a < 18446744073709551616) (i :
 
       -- y itself is the head
       pub placed-twice : (b : ℕ) → b ≡ 32 * y → h ≡ b → Placed a h y p false
-      placed-twice b d c l v t = sym (go (memoryOf 8 (lent a l v t)))
+      placed-twice b d c l v t = sym (go (held a l v t))
         where
           go : (m : Memory) → run m (seePrev (grains 8 a) (link a h) y (link a p)) ≡ no 5
           go m = past m ∙ goes m (mustGrain (grains 8 a) (link a h)) _ (head-in m) ∙ halts m (mustDiffer (link a h) y) _ (halts-differ m (link a h) y (head-is (c ∙ d)))
 
       -- another is: what is before y has to lead to it
       pub placed-behind : (b : ℕ) → b ≡ 32 * y → (h ≡ b → ⊥) → (r : Bool) → Says (Back a Next p y) r → Placed a h y p r
-      placed-behind b d c r k l v t = sym (go (memoryOf 8 (lent a l v t)) (back-told (memoryOf 8 (lent a l v t)) a Next p y s (reading-next a l v t s) z r k))
+      placed-behind b d c r k l v t = sym (go (held a l v t) (back-told (held a l v t) a Next p y s (reading-next a l v t s) z r k))
         where
           go : (m : Memory) → told r ≡ run m (mustGrain (grains 8 a) (link a p) >> mustLead Next (link a p) y) → run m (seePrev (grains 8 a) (link a h) y (link a p)) ≡ told r
           go m w =

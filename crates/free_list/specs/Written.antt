@@ -1,5 +1,5 @@
--- Slices into which some writes were stored: the arena a became b, and the table of the lists, l, became m. The law of
--- each single write, by the word that is put.
+-- Slices into which some writes were stored: the arena a became b, and the table of the lists, l, became m; with the live
+-- bits, v became o. The law of each single write, by the word that is put.
 use Prim.Native.Nat.{ℕ, _+_, _*_, _≤_}
 use native.Mathlib.Omega.{arith}
 use mathlib.Core.Path.{_≡_, refl, ap, sym, _∙_, subst}
@@ -54,6 +54,27 @@ written-room {a} {l} {w = w} k f r = record {
   known = r .known;
   room = rw (ap length (f .lists [] []) ∙ stores-lengths 8 (lent a l [] []) w .lists) (r .room);
 }
+
+-- ---- with the live bits
+
+-- the regions t stay, whatever they are
+pub record WrittenLive (a l v : List ℕ) (w : List Write) (b m o : List ℕ) : Type 0 where
+  pub arena : (t : List ℕ) → b ≡ stores 8 (lent a l v t) w .arena
+  pub lists : (t : List ℕ) → m ≡ stores 8 (lent a l v t) w .lists
+  pub live : (t : List ℕ) → o ≡ stores 8 (lent a l v t) w .live
+  pub slices : (t : List ℕ) → lent b m o t ≡ stores 8 (lent a l v t) w
+
+-- some that leave the live bits alone, and then others
+pub live-then : {a l v b m c n o : List ℕ} {p : List Write} (q : List Write) → Written a l p b m → ((t : List ℕ) → lent c n o t ≡ stores 8 (lent b m v t) q) → WrittenLive a l v (p ++ q) c n o
+live-then {a} {l} {v} {c = c} {n = n} {o = o} {p = p} q f g = record {
+  arena = λ t. ap (λ (S : Slices). S .arena) (all t);
+  lists = λ t. ap (λ (S : Slices). S .lists) (all t);
+  live = λ t. ap (λ (S : Slices). S .live) (all t);
+  slices = all;
+}
+  where
+    all : (t : List ℕ) → lent c n o t ≡ stores 8 (lent a l v t) (p ++ q)
+    all t = g t ∙ ap (λ (S : Slices). stores 8 S q) (f .slices v t) ∙ sym (stores-append 8 (lent a l v t) p q)
 
 -- ---- one write
 

@@ -14,17 +14,10 @@ ghost use Rattle.free_list.specs.Place.{Placed};
 ghost use Rattle.free_list.specs.Seen.{SeenEntry, SeenHead};
 ghost use Rattle.free_list.specs.Written.{Written};
 ghost use Rattle.free_list.specs.Moves.{joinNext, joinPrev, joinHead};
-
-// The fields of a header that link a free block to its neighbours in the list.
-const NEXT: usize = 2;
-
-const PREV: usize = 3;
-
-// A link that leads nowhere.
-const NONE: u64 = 18446744073709551615;
-
-// The words of the map, behind which the heads stand.
-const MAP_WORDS: usize = 3;
+use bits::MAP_WORDS;
+use header::NEXT;
+use header::NONE;
+use header::PREV;
 
 // The links of a block in its list, where all that is beside it agrees.
 pub struct Entry {

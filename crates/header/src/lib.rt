@@ -10,8 +10,22 @@ ghost use Rattle.slices.specs.Arena.{sizeAt, linkAt};
 ghost use Rattle.header.specs.Turned.{turned};
 ghost use Rattle.header.specs.Told.{freeOf, usedOf, busyOf};
 
+// The words of a header: how large the block is, and which block is before it in the arena.
+pub const SIZE: usize = 0;
+
+pub const BEFORE: usize = 1;
+
+// The links of a free block in its list. Before a payload that stands at a grain, the last word of the grain before says
+// which block is its own.
+pub const NEXT: usize = 2;
+
+pub const PREV: usize = 3;
+
+// A link that leads nowhere.
+pub const NONE: u64 = 18446744073709551615;
+
 // The sentinel's size word: one grain, used, the last of its piece.
-const SENTINEL: u64 = 35;
+pub const SENTINEL: u64 = 35;
 
 // ---- words
 
@@ -60,7 +74,7 @@ pub fn free_at(a: &[u8], g: usize) -> usize
     requires { ⌜ g < grains 8 (now a) ⌝ }
     ensures { λ r. ⌜ r ≡ freeOf (wordOf (sizeAt 8 (now (a .entry)) g)) ⌝ }
 {
-    let v = field(a, g, 0);
+    let v = field(a, g, SIZE);
     if v == 0 {
         return 0;
     }
@@ -76,7 +90,7 @@ pub fn used_at(a: &[u8], g: usize) -> usize
     requires { ⌜ g < grains 8 (now a) ⌝ }
     ensures { λ r. ⌜ r ≡ usedOf (wordOf (sizeAt 8 (now (a .entry)) g)) ⌝ }
 {
-    let word = field(a, g, 0);
+    let word = field(a, g, SIZE);
     if word == 0 {
         return 0;
     }
@@ -92,7 +106,7 @@ pub fn is_busy(a: &[u8], g: usize) -> bool
     requires { ⌜ g < grains 8 (now a) ⌝ }
     ensures { λ r. ⌜ r ≡ busyOf (wordOf (sizeAt 8 (now (a .entry)) g)) ⌝ }
 {
-    if field(a, g, 0) == SENTINEL {
+    if field(a, g, SIZE) == SENTINEL {
         return true;
     }
     used_at(a, g) != 0

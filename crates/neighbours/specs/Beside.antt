@@ -20,12 +20,12 @@ use Rattle.slices.specs.Arena.{sizeAt, linkAt, size-inside}
 use Rattle.slices.specs.Slices.{memory-size}
 use Rattle.header.specs.Turned.{turned}
 use Rattle.header.specs.Told.{freeOf, usedOf, busyOf}
-use Rattle.free_list.specs.Lent.{lent, noLink, link, link-none, link-some, link-grain}
-use Rattle.free_list.specs.Back.{answer}
+use Rattle.free_list.specs.Lent.{lent, held, classes, noLink, link, link-none, link-some, link-grain}
+use Rattle.free_list.specs.Answers.{answer}
 use Rattle.free_list.specs.Seen.{shownEntry}
 use Rattle.free_list.specs.declared.Entry.{Entry as EntryAnswer}
 use Rattle.neighbours.specs.declared.Beside.{Beside as BesideAnswer}
-use Rattle.neighbours.specs.Shown.{held, classes, before-read, before-link, link-from, alone, shownBeside, someone, someone-is}
+use Rattle.neighbours.specs.Shown.{before-read, before-link, link-from, alone, shownBeside, someone, someone-is}
 
 -- ---- a free block in the list of its size
 

@@ -15,8 +15,8 @@ use Rattle.slices.specs.Arena.{sizeAt, linkAt, size-inside, link-in}
 use Rattle.slices.specs.Slices.{memory-size, memory-prev, memory-live}
 use Rattle.header.specs.Turned.{turned}
 use Rattle.header.specs.Told.{usedOf}
-use Rattle.free_list.specs.Lent.{lent, link, link-grain}
-use Rattle.neighbours.specs.Shown.{held, before-read, link-from, shownGrain}
+use Rattle.free_list.specs.Lent.{lent, held, link, link-grain}
+use Rattle.neighbours.specs.Shown.{before-read, link-from, shownGrain}
 
 -- ---- the grain of the block
 

@@ -8,37 +8,19 @@ use mathlib.Core.Logic.{⊎-elim}
 use lib.ListN.{length}
 use Rattle.choice.specs.Choice.{ifLe, le?}
 use Rattle.word.specs.Word.{wordAt}
-use Rattle.bits.specs.Map.{mapWords, lists}
-use Rattle.script.specs.Memory.{Memory, Before}
+use Rattle.script.specs.Memory.{Before}
 use Rattle.script.specs.Script.{Result, ok, no, run}
 use Rattle.sound.specs.Checks.{Entry, Owner, Beside, nobody, somebody, blockOf, seeOwner, seeBehind, seeBefore}
 use Rattle.slices.specs.Decode.{grains, wrongLink}
 use Rattle.slices.specs.Arena.{linkAt, link-in}
-use Rattle.slices.specs.Slices.{memoryOf, memory-before}
+use Rattle.slices.specs.Slices.{memory-before}
 use Rattle.header.specs.Turned.{turned}
-use Rattle.free_list.specs.Lent.{lent, noLink, link, link-grain, link-past}
-use Rattle.free_list.specs.Back.{answer}
+use Rattle.free_list.specs.Lent.{lent, held, classes, noLink, link, link-grain, link-past}
+use Rattle.free_list.specs.Answers.{answer, unless}
 use Rattle.neighbours.specs.declared.Owner.{Owner as OwnerAnswer}
 use Rattle.neighbours.specs.declared.Beside.{Beside as BesideAnswer}
 
--- the memory of the lent slices
-abbrev pub held : List ℕ → List ℕ → List ℕ → List ℕ → Memory
-held a l v t = memoryOf 8 (lent a l v t)
-
--- the first-level classes, of 16 lists each
-abbrev pub classes : ℕ
-classes = 12
-
--- the table of the lists has a place for each head
-abbrev pub Long : List ℕ → Type 0
-Long l = mapWords + lists ≤ length l
-
 -- ---- the owner of a payload
-
--- refused, unless with 0
-abbrev pub unless : {A : Type 0} → ℕ → A → Result A
-unless zero x = ok x
-unless (suc r) x = no (suc r)
 
 -- a refusal, with no block
 abbrev pub refusal : ℕ → OwnerAnswer

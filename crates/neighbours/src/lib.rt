@@ -4,20 +4,13 @@ ghost use mathlib.Core.Path.{_≡_};
 ghost use Prim.Native.Nat.{_*_, _≤_, _<_};
 ghost use lib.ListN.{length};
 ghost use Rattle.slices.specs.Decode.{grains};
-ghost use Rattle.neighbours.specs.Shown.{Long, refusal, alone, SeenOwner, SeenBlock, SeenBehind, SeenBefore};
+ghost use Rattle.free_list.specs.Lent.{Long};
+ghost use Rattle.neighbours.specs.Shown.{refusal, alone, SeenOwner, SeenBlock, SeenBehind, SeenBefore};
 ghost use Rattle.neighbours.specs.Beside.{SeenListed};
-
-// The field of a header that says which block is before.
-const BEFORE: usize = 1;
-
-// The last field of a grain: before a payload that stands at a grain it says which block is its own.
-const PREV: usize = 3;
-
-// A link that leads nowhere.
-const NONE: u64 = 18446744073709551615;
-
-// How many lists there are.
-const LISTS: usize = 192;
+use bits::LISTS;
+use header::BEFORE;
+use header::NONE;
+use header::PREV;
 
 // No such payload is live.
 const NOT_LIVE: u64 = 3;

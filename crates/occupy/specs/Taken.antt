@@ -1,7 +1,7 @@
 -- A planned take, carried out: what the slices have room for before it, and what they are after it.
 use Prim.Native.Nat.{ℕ, _+_, _*_, _/_, _≤_, _<_}
 use native.Mathlib.Omega.{arith}
-use mathlib.Core.Path.{_≡_, refl, ap, sym, _∙_}
+use mathlib.Core.Path.{_≡_, refl, ap, sym, _∙_, subst}
 use mathlib.Core.List.{List, [], _∷_, _++_, append-assoc}
 use mathlib.Core.Logic.{⊎-elim}
 use lib.ListN.{length}
@@ -11,10 +11,9 @@ use Rattle.script.specs.Memory.{Live, none, Write, _at_≔_}
 use Rattle.sound.specs.Links.{unlinkWrites, pushWrites}
 use Rattle.sound.specs.Plans.{splitWrites, padWrites}
 use Rattle.slices.specs.Decode.{grains}
-use Rattle.slices.specs.Slices.{Slices, stores}
-use Rattle.slices.specs.Kept.{stores-append}
-use Rattle.free_list.specs.Lent.{lent, Room, Leads, noLink, link, link-none, link-keep}
-use Rattle.free_list.specs.Written.{Written, written-then, written-as, written-length}
+use Rattle.slices.specs.Slices.{stores}
+use Rattle.free_list.specs.Lent.{lent, Room, noLink, link, Leads, link-keep, link-none}
+use Rattle.free_list.specs.Written.{Written, WrittenLive, live-then, written-then, written-as, written-length}
 use Rattle.carve.specs.Made.{WrittenInArena, leftBehind}
 use Rattle.allocate.specs.declared.Plan.{Plan}
 use Rattle.allocate.specs.Rest.{leftWrites}
@@ -35,21 +34,6 @@ pub record Ready (a l v : List ℕ) (k x y s m q h d : ℕ) : Type 0 where
 abbrev pub takenWrites : List ℕ → ℕ → ℕ → ℕ → ℕ → ℕ → ℕ → ℕ → ℕ → List Write
 takenWrites a k x y s m q h d = leftWrites a k x y s m q h ++ (padWrites y d ++ ((Live at 2 * y + d ≔ 1) ∷ []))
 
--- they made b, n and o of the arena a, the lists l and the live bits v; the regions stay
-pub record Taken (a l v : List ℕ) (w : List Write) (b n o : List ℕ) : Type 0 where
-  pub arena : (t : List ℕ) → b ≡ stores 8 (lent a l v t) w .arena
-  pub lists : (t : List ℕ) → n ≡ stores 8 (lent a l v t) w .lists
-  pub live : (t : List ℕ) → o ≡ stores 8 (lent a l v t) w .live
-  pub slices : (t : List ℕ) → lent b n o t ≡ stores 8 (lent a l v t) w
-
-taken : (a l v b n o : List ℕ) (w : List Write) → ((t : List ℕ) → lent b n o t ≡ stores 8 (lent a l v t) w) → Taken a l v w b n o
-taken a l v b n o w h = record {
-  arena = λ t. ap (λ (S : Slices). S .arena) (h t);
-  lists = λ t. ap (λ (S : Slices). S .lists) (h t);
-  live = λ t. ap (λ (S : Slices). S .live) (h t);
-  slices = h;
-}
-
 -- the writes that leave the list, and then those that make the block
 left-is : (a : List ℕ) (k x y s m q h : ℕ) → leftWrites a k x y s m q h ≡ unlinkWrites k (link a x) none ++ leftBehind y s m q (link a h)
 left-is a k x y s m q h = ⊎-elim
@@ -65,8 +49,11 @@ ordered u w p z = simp append-assoc
 -- the four steps
 pub take-made : (a l v b n c o e i : List ℕ) (k x y s m q h d : ℕ) → length a < 18446744073709551616
     → Written a l (unlinkWrites k (link a x) (link a noLink)) b n → Written b n (leftBehind y s m q (link b h)) c o → WrittenInArena c (padWrites y d) e → i ≡ setTableBit v (2 * y + d)
-    → Taken a l v (takenWrites a k x y s m q h d) e o i
-take-made a l v b n c o e i k x y s m q h d f w1 w2 w3 g = taken a l v e o i (takenWrites a k x y s m q h d) last
+    → WrittenLive a l v (takenWrites a k x y s m q h d) e o i
+take-made a l v b n c o e i k x y s m q h d f w1 w2 w3 g =
+    subst (λ (w : List Write). WrittenLive a l v w e o i)
+    (ordered u r (padWrites y d) bit ∙ ap (λ (w : List Write). w ++ (padWrites y d ++ bit)) (sym (left-is a k x y s m q h)))
+    (live-then bit whole lit)
   where
     u : List Write
     u = unlinkWrites k (link a x) none
@@ -84,11 +71,6 @@ take-made a l v b n c o e i k x y s m q h d f w1 w2 w3 g = taken a l v e o i (ta
 
     lit : (t : List ℕ) → lent e o i t ≡ stores 8 (lent e o v t) bit
     lit t = ap (λ (z : List ℕ). lent e o z t) (g ∙ sym (eq-no 1 0 (clearTableBit v (2 * y + d)) (setTableBit v (2 * y + d)) (λ q. omega arith)))
-
-    last : (t : List ℕ) → lent e o i t ≡ stores 8 (lent a l v t) (takenWrites a k x y s m q h d)
-    last t =
-        lit t ∙ ap (λ (S : Slices). stores 8 S bit) (whole .slices v t) ∙ sym (stores-append 8 (lent a l v t) (u ++ (r ++ padWrites y d)) bit)
-        ∙ ap (stores 8 (lent a l v t)) (ordered u r (padWrites y d) bit ∙ ap (λ (w : List Write). w ++ (padWrites y d ++ bit)) (sym (left-is a k x y s m q h)))
 
 -- ---- a plan that was not refused
 

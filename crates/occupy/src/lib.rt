@@ -1,8 +1,7 @@
 // A planned take, carried out: the writes of its plan, in their order, and nothing else.
-ghost use Rattle.occupy.specs.Taken.{Ready, Taken, takenWrites};
-
-// A link that leads nowhere.
-const NONE: u64 = 18446744073709551615;
+ghost use Rattle.free_list.specs.Written.{WrittenLive};
+ghost use Rattle.occupy.specs.Taken.{Ready, takenWrites};
+use header::NONE;
 
 // The first block of a list leaves it, keeps what the payload at its place needs, and the payload is live; what is left
 // goes to the head of its list.
@@ -20,7 +19,7 @@ pub fn apply_take(
     place: usize,
 )
     requires { ⌜ Ready (now a) (now lists) (now live) list next at grains keep rest head place ⌝ }
-    ensures { λ r. ⌜ Taken (now (a .entry)) (now (lists .entry)) (now (live .entry))
+    ensures { λ r. ⌜ WrittenLive (now (a .entry)) (now (lists .entry)) (now (live .entry))
         (takenWrites (now (a .entry)) list next at grains keep rest head place)
         (now (a .exit)) (now (lists .exit)) (now (live .exit)) ⌝ }
 {

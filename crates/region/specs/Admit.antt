@@ -1,18 +1,18 @@
 -- Whether a region can be given, on any memory that has this table: the answer is the script's refusal, or the script goes
 -- on to lay out the region (`Answered`). The script is taken in two parts: what is asked before the other regions are
 -- looked at, and from there on (`beside`). Each law is one return of the code.
-use Prim.Native.Nat.{ℕ, zero, suc, _+_, _-_, _*_, _/_, _≤_, _<_}
+use Prim.Native.Nat.{ℕ, zero, suc, _+_, _-_, _/_, _≤_, _<_}
 use native.Mathlib.Omega.{arith}
 use mathlib.Core.Path.{_≡_, ap, sym, _∙_}
 use mathlib.Core.Bool.{Bool, true, false}
-use mathlib.Core.List.{List, [], _∷_, _++_}
+use mathlib.Core.List.{List, []}
 use lib.ListN.{length}
 use Rattle.choice.specs.Choice.{ifEq, eq-yes, eq-no}
 use Rattle.table.specs.Table.{entry}
-use Rattle.script.specs.Memory.{Memory, Table, _at_≔_}
+use Rattle.script.specs.Memory.{Memory, Table}
 use Rattle.script.specs.Script.{Script, no, run, done, stop, _>>=_, _>>_, unlessLe, mustEq, mustLe, Gives, goes, halts, reads, gives-done, gives-eq, gives-le, halts-eq, halts-le, runs-stop}
 use Rattle.sound.specs.Plans.{Plan}
-use Rattle.sound.specs.RegionPlan.{Looked, seeRegions, Layout, layScript, regionScript}
+use Rattle.sound.specs.RegionPlan.{Looked, seeRegions, Layout, layScript, planned, regionScript}
 use Rattle.sound.specs.RegionSound.{nothing-seen}
 use Rattle.region.specs.declared.Findings.{Findings}
 use Rattle.region.specs.Look.{Holds, told, LookedThrough}
@@ -25,11 +25,7 @@ mostOf t = (length t - 1) / 2
 
 -- what is planned for len grains from g on, laid out as w says, with r regions in the table
 abbrev pub given : ℕ → ℕ → ℕ → Layout → Script Plan
-given g len r w = done (record {
-  answer = len - w .over;
-  moved = 0;
-  writes = w .writes ++ ((Table at 2 * r + 1 ≔ g) ∷ (Table at 2 * r + 2 ≔ g + (len - w .over)) ∷ (Table at 0 ≔ suc r) ∷ []);
-})
+given g len r w = done (planned r g len w)
 
 -- the region laid out
 abbrev pub laying : ℕ → ℕ → ℕ → ℕ → ℕ → Script Plan

@@ -18,20 +18,13 @@ ghost use Rattle.region.specs.Pieces.{fullWrites, Layable};
 ghost use Rattle.region.specs.Entered.{withRegion};
 ghost use Rattle.region.specs.Look.{Overlap, LookedThrough};
 ghost use Rattle.region.specs.Admit.{Answered, AnsweredBeside};
+use header::BEFORE;
+use header::NONE;
+use header::SENTINEL;
+use header::SIZE;
 
 // The grains of a piece that is as long as a piece can be.
 const PIECE: usize = 4096;
-
-// The first two fields of a header.
-const SIZE: usize = 0;
-
-const BEFORE: usize = 1;
-
-// The sentinel's size word: one grain, used, the last of its piece.
-const SENTINEL: u64 = 35;
-
-// A link that leads nowhere.
-const NONE: u64 = 18446744073709551615;
 
 // Answers: the table holds no more regions; the region is not one that can be given; the table can't be right.
 const FULL: usize = 6;

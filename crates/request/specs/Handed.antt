@@ -21,7 +21,7 @@ abbrev pub handed : ℕ → ℕ → ℕ
 handed a y = 2 * y + place (multipleOf 16 a) y
 
 -- a power of two from 16 on divides half grains at a multiple, a smaller one all of them
-half-divides : (a q : ℕ) → Power a → q % multipleOf 16 a ≡ 0 → 16 * q % a ≡ 0
+pub half-divides : (a q : ℕ) → Power a → q % multipleOf 16 a ≡ 0 → 16 * q % a ≡ 0
 half-divides a q p e = ⊎-elim large small (le? 16 a)
   where
     large : 16 ≤ a → 16 * q % a ≡ 0

@@ -1,10 +1,10 @@
 // Requests: what a caller gives in bytes, turned into half grains and grains, or refused where it is out of range.
 // An alignment is a power of two, so no function divides by one: what is beyond a multiple is cut out by a mask.
 ghost use mathlib.Core.Path.{_≡_};
-ghost use Prim.Native.Nat.{_+_, _*_, _<_, _^_};
+ghost use Prim.Native.Nat.{_+_, _-_, _*_, _<_, _^_};
 ghost use Rattle.choice.specs.Says.{Says};
 ghost use Rattle.align.specs.Align.{Power};
-ghost use Rattle.definition.specs.Units.{multiple as multipleOf};
+ghost use Rattle.definition.specs.Units.{multiple as multipleOf, firstGrain, wholeGrains};
 ghost use Rattle.definition.specs.Calls.{grains, place, keeps};
 ghost use Rattle.request.specs.Alignment.{Alignment};
 ghost use Rattle.request.specs.Asked.{Asked};
@@ -133,4 +133,37 @@ pub fn payload_of(offset: usize, align: usize) -> Payload
         return Payload::At(offset / HALF);
     }
     Payload::NoKind
+}
+
+// ---- regions
+
+// The first grain that lies wholly behind an offset.
+pub fn first_grain(start: usize) -> usize
+    ensures { λ r. ⌜ r ≡ firstGrain 16 start ⌝ }
+{
+    if start % GRAIN == 0 {
+        return start / GRAIN;
+    }
+    start / GRAIN + 1
+}
+
+// The bytes from an offset up to there.
+pub fn bytes_before(start: usize) -> usize
+    ensures { λ r. ⌜ r ≡ 32 * firstGrain 16 start - start ⌝ }
+{
+    if start % GRAIN == 0 {
+        return 0;
+    }
+    GRAIN - start % GRAIN
+}
+
+// The grains that lie wholly in `len` bytes from an offset on.
+pub fn whole_grains(start: usize, len: usize) -> usize
+    ensures { λ r. ⌜ r ≡ wholeGrains 16 start len ⌝ }
+{
+    let before = bytes_before(start);
+    if len < before {
+        return 0;
+    }
+    (len - before) / GRAIN
 }

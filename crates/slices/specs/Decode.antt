@@ -171,9 +171,7 @@ decoded u n g v =
     In : ℕ → Type 0
     In x = Inside n g (wordOf x)
 
-pub decoded-free : (u n g v s : ℕ) → wordOf (sizeOf u n g v) ≡ isFree s → (1 ≤ s) × (g + s + 1 ≤ n)
-decoded-free u n g v s e = subst (Inside n g) e (decoded u n g v)
-
+-- a grain of the arena is behind a used block
 pub decoded-used : (u n g v s : ℕ) → wordOf (sizeOf u n g v) ≡ isUsed s → (1 ≤ s) × (g + s + 1 ≤ n)
 decoded-used u n g v s e = subst (Inside n g) e (decoded u n g v)
 
@@ -219,7 +217,7 @@ pub grains-none : {w : ℕ} {a : List ℕ} → Wide w a → grains w a ≤ none
 unfolding grains none
 grains-none {w} {a} k = omega (arith, div-le-self (length a) (4 * w), k .head)
 
--- what is stored fits a word of the arena, and a list head
+-- what is stored fits a word of the arena
 module _ {w : ℕ} {a : List ℕ} (k : Wide w a) where
   pub size-fits : (g v : ℕ) → ValidSize (grains w a) g v → sizeWord (4 * w) v < 256 ^ w
   size-fits g v f =
@@ -227,6 +225,3 @@ module _ {w : ℕ} {a : List ℕ} (k : Wide w a) where
 
   pub link-fits : (v : ℕ) → ValidLink (grains w a) v → linkWord (4 * w) (topOf w) v < 256 ^ w
   link-fits v f = link-below (4 * w) (grains w a) v (256 ^ w) (omega (arith, grains-le w a, k .short)) f
-
-  pub head-fits : (v : ℕ) → ValidLink (grains w a) v → linkWord (4 * w) (topOf headBytes) v < 256 ^ headBytes
-  head-fits v f = link-below (4 * w) (grains w a) v (256 ^ headBytes) (omega (arith, grains-le w a, k .head)) f

@@ -13,12 +13,12 @@ use Rattle.invariants.specs.Order.{out, BlockAt, LeftAt, at-split, at-low, left
 use Rattle.invariants.specs.Members.{Mem, mem-push}
 use Rattle.invariants.specs.Gaps.{Spot, gaps-add, gaps-cases, gap-used}
 use Rattle.invariants.specs.Regions.{two-grains}
-use Rattle.script.specs.Memory.{Memory, Next, Table, none, root, Write, _at_≔_, apply, apply-append}
+use Rattle.script.specs.Memory.{Memory, Next, Table, none, root, Write, apply, apply-append}
 use Rattle.script.specs.Script.{Gives, ok, no, run, done, stop, goes, over, over-run, inv-bind, inv-get, inv-done, inv-le, unlessLe, mustEq, mustLe}
 use Rattle.sound.specs.Sound.{Sound}
 use Rattle.sound.specs.Checks.{seeHead, few-head}
 use Rattle.sound.specs.Plans.{Plan}
-use Rattle.sound.specs.RegionPlan.{Looked, Layout, pieceWrites, seeRegions, layScript, regionScript}
+use Rattle.sound.specs.RegionPlan.{Looked, Layout, pieceWrites, seeRegions, layScript, entryWrites, regionScript}
 use Rattle.sound.specs.Founded.{Founded, sound-founded, founded-real, head-founded}
 use Rattle.sound.specs.Laying.{piece-founded}
 use Rattle.sound.specs.RegionTable.{Overlap, Passed, look}
@@ -110,7 +110,7 @@ module _ (n c g len : ℕ) (m : Memory) (h : Heap) (o : Sound n c m h) where
       let k7 = inv-bind m (mustEq (k5 .0 .wrong) 0) _ (k6 .2) in
       let k8 = inv-bind m (layScript n c len [] g len) _ (k7 .2) in
       let p = passed-spot (k5 .0) (omega (arith, inv-le m 4 2 len (k2 .1))) (inv-le m 4 (g + len) n (k3 .1)) (k5 .1) in
-      let v : List Write = (Table at 2 * r + 1 ≔ g) ∷ (Table at 2 * r + 2 ≔ g + (len - k8 .0 .over)) ∷ (Table at 0 ≔ suc r) ∷ [] in
+      let v = entryWrites r g (g + (len - k8 .0 .over)) in
       subst (λ (u : Plan). Spares y s d (u .writes)) (inv-done m _ t (k8 .2))
       (spares-from y s d (at-whole y (used s d) 0 out (h .blocks) (o .heap .order) b .1 .some) (k8 .0 .writes ++ v)
       (spares-append y s 1 (k8 .0 .writes) v

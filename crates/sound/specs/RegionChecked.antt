@@ -1,16 +1,16 @@
 -- What holds on any memory, damaged or not, where a region is taken in: the table has room, every entry of it is a region
 -- of the arena, and the new one lies apart from all of them. A full table is refused with 6, a region that is too short,
 -- outside, overlaps, or must follow another and doesn't, with 4; a table that can't be right with 5.
-use Prim.Native.Nat.{ℕ, zero, suc, _+_, _-_, _*_, _≤_, _<_}
+use Prim.Native.Nat.{ℕ, zero, suc, _+_, _*_, _≤_, _<_}
 use native.Mathlib.Omega.{arith}
 use mathlib.Core.Path.{_≡_, sym, subst}
-use mathlib.Core.List.{[], _∷_, _++_}
+use mathlib.Core.List.{[]}
 use mathlib.Core.Logic.{_⊎_, inl, inr, ⊎-elim}
 use Rattle.choice.specs.Choice.{ifEq, ifLe, eq-case, le-case, le?}
-use Rattle.script.specs.Memory.{Memory, Table, _at_≔_}
+use Rattle.script.specs.Memory.{Memory, Table}
 use Rattle.script.specs.Script.{stop, unlessLe, mustEq, mustLe, Gives, inv-bind, inv-get, inv-done, inv-eq, inv-le}
 use Rattle.sound.specs.Plans.{Plan}
-use Rattle.sound.specs.RegionPlan.{Looked, wrongOf, seeRegions, Layout, layScript, regionScript}
+use Rattle.sound.specs.RegionPlan.{Looked, wrongOf, seeRegions, Layout, layScript, planned, regionScript}
 use Rattle.sound.specs.RegionTable.{firstOf, endOf, Off}
 use Rattle.sound.specs.Inverted.{inv-stop, inv-if-eq, inv-if-le}
 
@@ -74,11 +74,7 @@ pub record RegionChecked (most behind n c g len : ℕ) (m : Memory) (t : Plan) :
   pub clear : (j : ℕ) → j < m Table 0 → Off m g len j
   pub follows : 1 ≤ behind → (j : ℕ) × (j < m Table 0) × (endOf m j ≡ g)
   pub laid : Gives m (layScript n c len [] g len) w
-  pub plan : t ≡ record {
-    answer = len - w .over;
-    moved = 0;
-    writes = w .writes ++ ((Table at 2 * m Table 0 + 1 ≔ g) ∷ (Table at 2 * m Table 0 + 2 ≔ g + (len - w .over)) ∷ (Table at 0 ≔ suc (m Table 0)) ∷ []);
-  }
+  pub plan : t ≡ planned (m Table 0) g len w
 
 -- the region that is taken in
 pub region-checked : (most behind n c g len : ℕ) (m : Memory) (t : Plan) → Gives m (regionScript most behind n c g len) t → RegionChecked most behind n c g len m t

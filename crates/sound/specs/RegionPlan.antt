@@ -1,11 +1,11 @@
 -- The script of giving a region: len grains from g on, in an arena of n, with a table that holds at most `most` regions.
 -- The table is looked through, then each piece is laid on the memory as the pieces before it will leave it.
-use Prim.Native.Nat.{ℕ, zero, suc, _+_, _-_, _*_, _^_, _≤_, _<_, min}
+use Prim.Native.Nat.{ℕ, zero, suc, _+_, _-_, _*_, _^_, min}
 use mathlib.Core.List.{List, [], _∷_, _++_}
 use Rattle.choice.specs.Choice.{ifEq, ifLe}
 use Rattle.class.specs.Class.{listOf}
 use Rattle.script.specs.Memory.{Size, Before, Table, none, freeWord, lastWord, Write, _at_≔_}
-use Rattle.script.specs.Script.{Script, read, done, stop, _>>=_, _>>_, get, unlessEq, unlessLe, mustEq, mustLe, over}
+use Rattle.script.specs.Script.{Script, done, stop, _>>=_, _>>_, get, unlessLe, mustEq, mustLe, over}
 use Rattle.sound.specs.Checks.{seeHead}
 use Rattle.sound.specs.Plans.{Plan}
 use Rattle.sound.specs.Links.{pushWrites}
@@ -43,6 +43,14 @@ layScript n c (suc i) w x len = ifLe len 1 (done (record { writes = w; over = le
   h ← over w (seeHead n (listOf (min len (2 ^ c) - 1)))
   layScript n c i (w ++ pieceWrites x (min len (2 ^ c)) h) (x + min len (2 ^ c)) (len - min len (2 ^ c)))
 
+-- region r, from g to e, is entered in the table
+abbrev pub entryWrites : ℕ → ℕ → ℕ → List Write
+entryWrites r g e = (Table at 2 * r + 1 ≔ g) ∷ (Table at 2 * r + 2 ≔ e) ∷ (Table at 0 ≔ suc r) ∷ []
+
+-- the plan for len grains from g on, laid out as w says, which become region r
+abbrev pub planned : ℕ → ℕ → ℕ → Layout → Plan
+planned r g len w = record { answer = len - w .over; moved = 0; writes = w .writes ++ entryWrites r g (g + (len - w .over)) }
+
 -- behind: 1 where the region must begin where another ended
 unfoldable pub regionScript : ℕ → ℕ → ℕ → ℕ → ℕ → ℕ → Script Plan
 regionScript most behind n c g len = do
@@ -55,8 +63,4 @@ regionScript most behind n c g len = do
   unlessLe 4 behind (l .meets)
   mustEq (l .wrong) 0
   w ← layScript n c len [] g len
-  done (record {
-    answer = len - w .over;
-    moved = 0;
-    writes = w .writes ++ ((Table at 2 * r + 1 ≔ g) ∷ (Table at 2 * r + 2 ≔ g + (len - w .over)) ∷ (Table at 0 ≔ suc r) ∷ []);
-  })
+  done (planned r g len w)

@@ -3,7 +3,7 @@
 use Prim.Native.Nat.{ℕ, zero, suc, _+_, _-_, _*_, _≤_, _<_}
 use native.Mathlib.Omega.{arith}
 use mathlib.Core.Path.{_≡_, refl, ap, sym, _∙_, subst}
-use mathlib.Core.List.{List, [], _∷_, _++_}
+use mathlib.Core.List.{List, [], _∷_}
 use mathlib.Core.Logic.{_⊎_, inl, inr, ⊎-elim}
 use Rattle.choice.specs.Choice.{ifEq, eq-no, le?, upd-same, upd-other}
 use Rattle.definition.specs.Blocks.{Block, free, used, last, gap, total, _⟨⟩_, gaps}
@@ -12,21 +12,17 @@ use Rattle.definition.specs.Calls.{Heap, lay, insert, append}
 use Rattle.invariants.specs.Order.{out, busy, idle, sideL, Ordered, order-split, BlockAt, at-here, one-block}
 use Rattle.invariants.specs.Gaps.{Spot, gaps-spot, spot-gap, spot-inside, gap-last}
 use Rattle.invariants.specs.Regions.{laidOut, gap-out, insert-spot, insert-none, append-spot, append-alone, append-none}
-use Rattle.script.specs.Memory.{Memory, Table, Write, _at_≔_, apply, apply-append, apply-untouched}
+use Rattle.script.specs.Memory.{Memory, Table, apply, apply-append, apply-untouched}
 use Rattle.script.specs.Script.{Script, no, run, done, stop, reads, goes, halts, gives-eq, gives-le, gives-done, halts-le, unlessLe, mustEq, mustLe, _>>=_, _>>_}
 use Rattle.sound.specs.Sound.{InTable, Given, Sound}
 use Rattle.sound.specs.Plans.{Plan}
-use Rattle.sound.specs.RegionPlan.{Looked, seeRegions, Layout, layScript, regionScript}
+use Rattle.sound.specs.RegionPlan.{Looked, seeRegions, layScript, entryWrites, planned, regionScript}
 use Rattle.sound.specs.Meets.{Meets}
 use Rattle.sound.specs.Founded.{Founded, sound-founded}
 use Rattle.sound.specs.Laying.{lays}
 use Rattle.sound.specs.RegionTable.{firstOf, endOf, Overlap, Passed, look, Longer, given-more, filled}
 
 -- ---- the table's three words
-
--- region r, from g to e, is entered
-abbrev entryWrites : ℕ → ℕ → ℕ → List Write
-entryWrites r g e = (Table at 2 * r + 1 ≔ g) ∷ (Table at 2 * r + 2 ≔ e) ∷ (Table at 0 ≔ suc r) ∷ []
 
 module _ (m q : Memory) (g e : ℕ) (h : q Table ≡ m Table) where
   abbrev more : Memory
@@ -75,10 +71,6 @@ clear-spot n c g len m h b some near p = gaps-spot g len (h .blocks) some (b .he
     (λ (a : g + len ≤ firstOf m (k .0)). omega (arith, k .2))
     (p .clear (k .0) (omega arith) (omega (arith, k .1)))))
     (b .given .either y (omega (arith, b .whole))))
-
--- the plan for a region laid as w, which becomes region r
-abbrev planned : ℕ → ℕ → ℕ → Layout → Plan
-planned r g len w = record { answer = len - w .over; moved = 0; writes = w .writes ++ entryWrites r g (g + (len - w .over)) }
 
 -- what follows when the table was looked through
 abbrev afterLook : ℕ → ℕ → ℕ → ℕ → ℕ → ℕ → Looked → Script Plan

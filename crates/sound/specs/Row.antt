@@ -78,12 +78,6 @@ row-relink sz up sz' up' x p p' a (b ∷ r) w f g e h = (
   row-keep sz up sz' up' (x + size b) (link x b) r (λ y k. f y (omega arith)) (λ y k. g y (omega (arith, some b (w .1)))) (h .1),
 )
 
--- the blocks a became b, and the rest stayed
-pub row-swap : (sz up sz' up' : ℕ → ℕ) (a b r : List Block) (s : Side) → Ordered s r → Row sz up 0 none (a ⟨⟩ r) → Left sz' up' b → total b ≡ total a
-    → ((y : ℕ) → total a ≤ y → sz' y ≡ sz y) → ((y : ℕ) → total a < y → up' y ≡ up y) → up' (total a) ≡ linkL b → Row sz' up' 0 none (b ⟨⟩ r)
-row-swap sz up sz' up' a b r s w h k e f g u =
-    row-join sz' up' b r k (rw e (row-relink sz up sz' up' (total a) (linkL a) (linkL b) s r w f g u (row-split sz up a r h .1)))
-
 -- ---- what stands beside
 
 pub left-past : (sz up : ℕ → ℕ) (l : List Block) → Left sz up l → up (total l) ≡ linkL l → Left sz up (past l) × (up (total (past l)) ≡ linkL (past l))

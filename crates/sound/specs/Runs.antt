@@ -77,7 +77,7 @@ heapEnd c h (k ∷ l) = heapEnd c (left h (answerOf c k h)) l
 -- ---- they agree
 
 -- one call
-one : (n c : ℕ) (m : Memory) (h : Heap) (s : Script Plan) (w : Answer) → Sound n c m h → Meets n c m s w → (reply (run m s) ≡ said w) × Sound n c (written m (run m s)) (left h w)
+pub one : (n c : ℕ) (m : Memory) (h : Heap) (s : Script Plan) (w : Answer) → Sound n c m h → Meets n c m s w → (reply (run m s) ≡ said w) × Sound n c (written m (run m s)) (left h w)
 one n c m h s (refused w) o k = (ap reply k, subst (λ (r : Result Plan). Sound n c (written m r) h) (sym k) o)
 one n c m h s (granted v g) o k = (ap reply (k .gives) ∙ ap yes (k .answer), subst (λ (r : Result Plan). Sound n c (written m r) g) (sym (k .gives)) (k .sound))
 
@@ -122,7 +122,7 @@ same m t u = omega (arith, ap (λ (f : ℕ → ℕ). f 0) (apply-untouched m (t 
 
 module _ (n c most : ℕ) where
   -- what is granted raises the number of regions by one, or not at all
-  granted-table : (m : Memory) (k : Call) (t : Plan) → Gives m (scriptOf n c most k) t → apply m (t .writes) Table 0 ≤ m Table 0 + regionsOf k
+  pub granted-table : (m : Memory) (k : Call) (t : Plan) → Gives m (scriptOf n c most k) t → apply m (t .writes) Table 0 ≤ m Table 0 + regionsOf k
   granted-table m (Take p a) t g = same m t (ends-gives Spared m (takeScript n c p a) (take-table n c p a) g)
   granted-table m (Return q) t g = same m t (ends-gives Spared m (giveBackScript n c q) (back-table n c q) g)
   granted-table m (Resize q p a) t g = same m t (ends-gives Spared m (resizeScript n c q p a) (resize-table n c q p a) g)

@@ -1,6 +1,6 @@
 -- The lists in memory, with their marks. The writes that take a block out of its list, and those that put one at the head
 -- of a list, keep them strung.
-use Prim.Native.Nat.{ℕ, _+_, _<_}
+use Prim.Native.Nat.{ℕ, _<_}
 use native.Mathlib.Omega.{arith}
 use mathlib.Core.Path.{_≡_, refl, ap, sym, _∙_, subst}
 use mathlib.Core.List.{List, [], _∷_, _++_}
@@ -8,9 +8,9 @@ use mathlib.Core.Logic.{inl, inr, ⊎-elim}
 use Rattle.choice.specs.Choice.{eq-case, upd, upd-same, upd-other, upd-each, upd-pair, same?}
 use Rattle.definition.specs.Lists.{Lists, remove, push, drop}
 use Rattle.invariants.specs.Members.{Mem, Parts, parts, Apiece}
-use Rattle.script.specs.Memory.{Memory, Next, Prev, Mark, none, root, Write, _at_≔_, put, apply, Untouched, Spared}
+use Rattle.script.specs.Memory.{Memory, Next, Prev, Mark, none, root, Write, _at_≔_, apply, Untouched, Spared}
 use Rattle.sound.specs.Links.{unlinkWrites, pushWrites, node}
-use Rattle.sound.specs.Chain.{Chain, Links, Real, chain-keep, links-unlink, links-push, not-none, prev-is, tail-of, lastOr, last-mem}
+use Rattle.sound.specs.Chain.{Chain, Links, Real, links-unlink, links-push, not-none, prev-is, tail-of, lastOr, last-mem}
 
 -- a list's mark
 abbrev pub Marked : ℕ → List ℕ → Type 0
@@ -142,11 +142,3 @@ module _ (m : Memory) (f : Lists) (o : Apiece f) (real : Real f) (s : Strung m f
       full : (l : List ℕ) → Chain (m Next) (m Prev) (root k) none l → Marked (m Mark k) l → (m Next (root k) ≡ none → ⊥) → m Mark k ≡ 1
       full [] c q n = absurd (n c)
       full (z ∷ l) c q n = q
-
--- only grains, roots and marks matter
-pub strung-agree : (m d : Memory) (f : Lists) → Real f → ((z : ℕ) → d Next z ≡ m Next z) → ((z : ℕ) → (z ≡ none → ⊥) → d Prev z ≡ m Prev z) → ((k : ℕ) → d Mark k ≡ m Mark k)
-    → Strung m f → Strung d f
-strung-agree m d f real a b c s = record {
-  links = λ k. chain-keep (m Next) (m Prev) (d Next) (d Prev) (root k) none (f k) (a (root k)) (λ y i. a y) (λ y i. b y (λ e. omega (arith, real k y i))) (s .links k);
-  marks = λ k. subst (λ v. Marked v (f k)) (sym (c k)) (s .marks k);
-}

@@ -53,26 +53,6 @@ pub data Writable (n c : ℕ) : Write → Type 0 where
   atMark : {k v : ℕ} → k < 16 * c → v ≤ 1 → Writable n c (Mark at k ≔ v)
   atLive : {q v : ℕ} → q < 2 * n → v ≤ 1 → Writable n c (Live at q ≔ v)
 
--- what a write's field tells of it
-module _ {n c x v : ℕ} where
-  pub size-in : Writable n c (Size at x ≔ v) → (x < n) × SizeWord n x v
-  size-in (atSize h s) = (h, s)
-
-  pub before-in : Writable n c (Before at x ≔ v) → (x < n) × Link n v
-  before-in (atBefore h s) = (h, s)
-
-  pub next-in : Writable n c (Next at x ≔ v) → NextPlace n c x × Link n v
-  next-in (atNext h s) = (h, s)
-
-  pub prev-in : Writable n c (Prev at x ≔ v) → (x < n) × Link n v
-  prev-in (atPrev h s) = (h, s)
-
-  pub mark-in : Writable n c (Mark at x ≔ v) → (x < 16 * c) × (v ≤ 1)
-  mark-in (atMark h s) = (h, s)
-
-  pub live-in : Writable n c (Live at x ≔ v) → (x < 2 * n) × (v ≤ 1)
-  live-in (atLive h s) = (h, s)
-
 -- all writes of a list
 abbrev pub AllWritable : ℕ → ℕ → List Write → Type 0
 AllWritable n c [] = Unit {0}

@@ -109,7 +109,3 @@ module _ (n c q p a : ℕ) (m : Memory) (d : Decoded n m) (al : Align a) (t : Pl
   -- every write can be stored
   pub resize-writable : Gives m (resizeScript n c q p a) t → AllWritable n c (t .writes)
   resize-writable g = resize-storable g .writes
-
-  -- the answer is the old payload or a new one
-  pub resize-answer : Gives m (resizeScript n c q p a) t → (1 ≤ t .answer) × (t .answer ≤ 2 * n)
-  resize-answer g = resize-storable g .answer

@@ -8,18 +8,12 @@ ghost use Rattle.bits.specs.Map.{mapWords, lists as listCount};
 ghost use Rattle.tables.specs.Fill.{filled};
 ghost use Rattle.tables.specs.Length.{liveLength, LongEnough};
 ghost use Rattle.tables.specs.Initial.{emptyLists, Initial};
-
-// The words of the map.
-const MAP_WORDS: usize = 3;
-
-// The lists, each with a head behind the map.
-const LISTS: usize = 192;
+use bits::LISTS;
+use bits::MAP_WORDS;
+use header::NONE;
 
 // The bytes of arena that a word of live bits stands for.
 const LIVE_BYTES: usize = 1024;
-
-// A link that leads nowhere.
-const NONE: u64 = 18446744073709551615;
 
 // ---- how long they must be
 

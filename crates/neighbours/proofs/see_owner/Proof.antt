@@ -9,7 +9,8 @@ use Rattle.script.specs.Script.{run}
 use Rattle.sound.specs.Checks.{seeOwner}
 use Rattle.slices.specs.Decode.{grains}
 use Rattle.header.specs.Turned.{grains-few}
-use Rattle.neighbours.specs.Shown.{held, shownOwner}
+use Rattle.free_list.specs.Lent.{held}
+use Rattle.neighbours.specs.Shown.{shownOwner}
 use Rattle.neighbours.specs.Owner.{used-inside, ownerOf, owner-dead, owner-lost, owner-none, owner-known, owner-behind, owner-torn, owner-found}
 use borrow.Author.Needs.{needs}
 use Rattle.neighbours.proofs.see_owner.Statement.{statement}
