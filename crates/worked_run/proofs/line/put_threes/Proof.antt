@@ -1,0 +1,60 @@
+-- `worked_run::line::put_threes` is safe and ends. Assumes nothing.
+use Prim.Native.Nat.{_≤_, _-_}
+use mathlib.Core.Path.{_≡_}
+use lib.ListN.{length}
+use borrow.Author.Needs.{needs}
+use Rattle.worked_run.proofs.line.put_threes.Statement.{statement}
+use Rattle.worked_run.proofs.line.put_threes.Tie as tie
+
+abbrev Inv-loop : tie.InvT-loop
+Inv-loop text₀ at digits to₀ i₀ text to i = (length text ≡ length text₀) × (i ≤ length digits)
+
+abbrev μ-loop : tie.MeasureT-loop
+μ-loop text₀ at digits to₀ i₀ text to i = length digits - i
+
+loop-holds : tie.Need-loop-holds Inv-loop μ-loop
+loop-holds c = search needs
+
+sub-put-comma : tie.Need-sub-put-comma Inv-loop μ-loop
+sub-put-comma c = search needs
+
+put-comma-requires : tie.Need-put-comma-requires Inv-loop μ-loop
+put-comma-requires c κs = search needs
+
+shared-slice-read-put : tie.Need-shared-slice-read-put Inv-loop μ-loop
+shared-slice-read-put c = search needs
+
+put-requires : tie.Need-put-requires Inv-loop μ-loop
+put-requires c κs = search needs
+
+add-i : tie.Need-add-i Inv-loop μ-loop
+add-i c = search needs
+
+loop-less : tie.Need-loop-less Inv-loop μ-loop
+loop-less c = search needs
+
+loop-again : tie.Need-loop-again Inv-loop μ-loop
+loop-again c = search needs
+
+same-length : tie.Need-same-length Inv-loop μ-loop
+same-length c = search needs
+
+returns : tie.Need-returns Inv-loop μ-loop
+returns c = search needs
+
+pub put-threes-spec : {M : Type 1} → statement M
+put-threes-spec =
+    tie.close
+    (tie.spec
+    Inv-loop
+    μ-loop
+    loop-holds
+    sub-put-comma
+    put-comma-requires
+    shared-slice-read-put
+    put-requires
+    add-i
+    loop-less
+    loop-again
+    same-length
+    returns)
