@@ -1,14 +1,13 @@
 -- Bytes moved as words: to put the number that was read is to copy its bytes. And what a move does to the words of the
 -- list: one inside the target is the source's, one outside stays.
-use Prim.Native.Nat.{ℕ, zero, suc, _+_, _*_, _-_, _/_, _%_, _≤_, _<_}
-use native.Mathlib.Nat.{add-zero, add-assoc}
+use Prim.Native.Nat.{ℕ, zero, suc, _+_, _*_, _/_, _%_, _≤_, _<_}
+use native.Mathlib.Nat.{add-zero, add-assoc, mul-add}
 use native.Mathlib.Omega.{arith}
-use mathlib.Core.Path.{_≡_, refl, _∙_, sym}
+use mathlib.Core.Path.{_≡_, refl}
 use mathlib.Core.List.{List}
 use mathlib.Core.Logic.{inl, inr, ⊎-elim}
 use lib.ListN.{length, getD, set, length-set}
 use lib.Seq.{getD-set-same, getD-set-other}
-use Rattle.choice.specs.Choice.{same?}
 use Rattle.word.specs.Number.{num, puts, Apart}
 use Rattle.word.specs.Word.{wordAt}
 use Rattle.copy.specs.Copied.{Copied, copied-then}
@@ -62,7 +61,8 @@ unfolding num
 num-same zero a i b j h = refl
 num-same (suc n) a i b j h =
     let first : getD a i 0 ≡ getD b j 0 = simp add-zero at (h 0 (omega arith)) in
-    let rest : num n a (i + 1) ≡ num n b (j + 1) = num-same n a (i + 1) b (j + 1) (λ k q. rw (add-assoc i 1 k, add-assoc j 1 k) (h (1 + k) (omega arith))) in
+    let rest : num n a (i + 1) ≡ num n b (j + 1) =
+    num-same n a (i + 1) b (j + 1) (λ k q. rw (add-assoc i 1 k, add-assoc j 1 k) (h (1 + k) (omega arith))) in
     rw (first, rest)
 
 module _ (a : List ℕ) (from to n : ℕ) where
@@ -80,3 +80,8 @@ module _ (a : List ℕ) (from to n : ℕ) where
   pub word-kept : (w j : ℕ) → Apart to n (w * j) w → wordAt w (moved a from to n) j ≡ wordAt w a j
   unfolding wordAt
   word-kept w j h = num-kept w (w * j) h
+
+-- source and target start with a word: a word inside the target is the source's
+pub word-arrived : (w : ℕ) (a : List ℕ) (f t n i : ℕ) → w * i + w ≤ n → w * t + n ≤ length a → wordAt w (moved a (w * f) (w * t) n) (t + i) ≡ wordAt w a (f + i)
+unfolding wordAt
+word-arrived w a f t n i h g = rw (mul-add w t i, mul-add w f i) (moved-num a (w * f) (w * t) n w (w * i) h g)

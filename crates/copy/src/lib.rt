@@ -1,8 +1,8 @@
 // Bytes moved inside one slice, where source and target may overlap: downwards the first ones first, upwards the last
 // ones first, so that each byte is read before it is written over.
 //
-// They go by grains of 32 bytes: its four words are read before the first of them is written.
-// What is left of a last grain goes word by word, and what is left of a last word byte by byte.
+// They go by grains of 32 bytes, each of which is read whole before it is written: the compiler makes of it two loads and
+// two stores of 16 bytes, on x86-64 and aarch64. The rest goes word by word, and the rest of a word byte by byte.
 ghost use mathlib.Core.Path.{_≡_};
 ghost use Prim.Native.Nat.{_+_, _*_, _≤_};
 ghost use lib.ListN.{length};
