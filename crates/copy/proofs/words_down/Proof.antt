@@ -1,0 +1,72 @@
+-- `copy::words_down` meets its contract. The loop's invariant: the first i words have moved, and nothing else
+-- has. Those behind them are as they were, so what is read next is the source's. Assumes nothing.
+use borrow.Author.Needs.{needs}
+use Prim.Native.Nat.{_*_, _-_, _≤_}
+use native.Mathlib.Omega.{arith}
+use mathlib.Core.Path.{_≡_, refl}
+use Rattle.copy.specs.Moved.{Moved, moved-none, then-behind}
+use Rattle.copy.proofs.words_down.Statement.{statement}
+use Rattle.copy.proofs.words_down.Tie as tie
+
+abbrev Inv-loop : tie.InvT-loop
+Inv-loop a₀ from to n i₀ a i = (i ≤ n) × Moved a₀ from to (8 * i) a
+
+abbrev μ-loop : tie.MeasureT-loop
+μ-loop a₀ from to n i₀ a i = n - i
+
+loop-holds : tie.Need-loop-holds Inv-loop μ-loop
+loop-holds c = (omega arith, moved-none _ _ _ _ (omega arith))
+
+mul-move-word : tie.Need-mul-move-word Inv-loop μ-loop
+mul-move-word c = search needs
+
+add-move-word : tie.Need-add-move-word Inv-loop μ-loop
+add-move-word c = search needs
+
+mul-move-word-2 : tie.Need-mul-move-word-2 Inv-loop μ-loop
+mul-move-word-2 c = search needs
+
+add-move-word-2 : tie.Need-add-move-word-2 Inv-loop μ-loop
+add-move-word-2 c = search needs
+
+move-word-requires : tie.Need-move-word-requires Inv-loop μ-loop
+move-word-requires c κs = search needs
+
+add-i : tie.Need-add-i Inv-loop μ-loop
+add-i c = search needs
+
+loop-less : tie.Need-loop-less Inv-loop μ-loop
+loop-less c = search needs
+
+loop-again : tie.Need-loop-again Inv-loop μ-loop
+loop-again c =
+    let m = c .before .before in
+    let l = m .before .before .before in
+    (omega arith, then-behind (omega arith) refl refl (omega arith) (l .loop .inv .1) (m .move-word .ensures))
+
+same-length : tie.Need-same-length Inv-loop μ-loop
+same-length c = search needs
+
+returns : tie.Need-returns Inv-loop μ-loop
+returns c =
+    let l = c .before in
+    let e : l .loop .i ≡ l .before .before .args .n = omega arith in
+    rw (← e) (l .loop .inv .1)
+
+pub words-down-spec : {M : Type 1} → statement M
+words-down-spec =
+    tie.close
+    (tie.spec
+    Inv-loop
+    μ-loop
+    loop-holds
+    mul-move-word
+    add-move-word
+    mul-move-word-2
+    add-move-word-2
+    move-word-requires
+    add-i
+    loop-less
+    loop-again
+    same-length
+    returns)
