@@ -1,6 +1,6 @@
 -- What is left of a block: its list, and the head that it is put before. The block was the first of list k, so where the
 -- rest goes to the same list, its head will be what is next. Each law is one return of the code.
-use Prim.Native.Nat.{ℕ, suc, _+_, _-_, _*_, _≤_, _<_}
+use Prim.Native.Nat.{ℕ, _+_, _-_, _≤_, _<_}
 use native.Mathlib.Omega.{arith}
 use mathlib.Core.Path.{_≡_, refl, ap, sym, _∙_, subst}
 use mathlib.Core.Bool.{Bool, true, false}
@@ -10,25 +10,24 @@ use lib.ListN.{length}
 use Rattle.choice.specs.Choice.{ifEq, eq-yes, eq-no, eq-case, same?}
 use Rattle.bits.specs.Map.{lists}
 use Rattle.class.specs.Class.{listOf, list-mono}
-use Rattle.script.specs.Memory.{Memory, Next, none, root, Write, latest}
-use Rattle.script.specs.Script.{Script, ok, run, done, _>>=_, _>>_, goes, halts, gives-done, gives-le}
-use Rattle.sound.specs.Checks.{mustList, seeHead}
-use Rattle.sound.specs.Links.{node, unlinkWrites, pushWrites}
-use Rattle.sound.specs.Plans.{wholeWrites, splitWrites, leaveScript}
+use Rattle.script.specs.Memory.{Next, none, root, Write, latest}
+use Rattle.script.specs.Script.{run}
+use Rattle.sound.specs.Links.{node, unlinkWrites}
+use Rattle.sound.specs.Plans.{leaveScript}
 use Rattle.slices.specs.Decode.{grains}
 use Rattle.free_list.specs.declared.Head.{Head}
 use Rattle.free_list.specs.Lent.{held, classes, link, Leads}
 use Rattle.free_list.specs.Answers.{answer}
 use Rattle.free_list.specs.Seen.{SeenHead}
 use Rattle.free_list.specs.Leading.{head-leads}
+use Rattle.carve.specs.Made.{leftBehind}
+use Rattle.carve.specs.Left.{left-nothing, left-headless, left-listed}
 use Rattle.allocate.specs.declared.Rest.{Rest}
 
 -- the first block of list k, of s grains at y, whose next is the word x, leaves its list and keeps m grains; the rest, if
 -- any, goes before the word h, the head of list q
 abbrev pub leftWrites : List ℕ → ℕ → ℕ → ℕ → ℕ → ℕ → ℕ → ℕ → List Write
-leftWrites a k x y s m q h = ifEq m s
-    (unlinkWrites k (link a x) none ++ wholeWrites y s)
-    ((unlinkWrites k (link a x) none ++ pushWrites q (y + m) (link a h)) ++ splitWrites y s m)
+leftWrites a k x y s m q h = unlinkWrites k (link a x) none ++ leftBehind y s m q (link a h)
 
 -- the answer is that of the script, wherever the block is; and the rest can be put before its head
 pub record SeenRest (a l : List ℕ) (k x s m : ℕ) (r : Rest) : Type 0 where
@@ -60,45 +59,25 @@ rest-listed s m k h n e j = omega (arith, list-mono (s - m) s (omega (arith, n))
 
 -- nothing is left
 pub rest-none : (a l : List ℕ) (k x s m : ℕ) → m ≡ s → SeenRest a l k x s m (record { ok = true; list = 0; head = 0 })
-unfolding leaveScript
 rest-none a l k x s m e = record {
-  seen = λ v t y. ap ok (eq-yes m s _ _ e) ∙ sym (ap (run (held a l v t)) (eq-yes m s _ _ e) ∙ gives-done (held a l v t) _);
+  seen = λ v t y. left-nothing a l v t (unlinkWrites k (link a x) none) y s m e 0 (link a 0);
   ready = λ n _. absurd (n e);
 }
 
 -- the rest goes to list q, whose head was seen
-rest-shown : (a l : List ℕ) (k x s m q h : ℕ) (r : Head) → (m ≡ s → ⊥) → q ≡ listOf (s - m) → q < lists → SeenHead a l q r → h ≡ ifEq q k x (r .word)
-    → (v t : List ℕ) (y : ℕ) → answer (r .ok) (leftWrites a k x y s m q h) ≡ run (held a l v t) (leaveScript (grains 8 a) classes (unlinkWrites k (link a x) none) y s m)
-unfolding leaveScript
-rest-shown a l k x s m q h r n e j w d v t y =
-    go (r .ok) (w v t) ∙ sym (ap (run c) (eq-no m s _ _ n))
+pub rest-some : (a l : List ℕ) (k x s m q h : ℕ) (r : Head) → length a < 18446744073709551616 → (m ≡ s → ⊥) → q ≡ listOf (s - m) → q < lists → SeenHead a l q r
+    → h ≡ ifEq q k x (r .word) → SeenRest a l k x s m (record { ok = r .ok; list = q; head = h })
+rest-some a l k x s m q h r f n e j w d = record {
+  seen = λ v t y. go v t y (r .ok) refl;
+  ready = λ _ b. (j, λ g. subst (Leads a) (sym d) (eq-case (Leads a) q k x (r .word) (λ _. g) (λ _. head-leads a l q r f w b)));
+}
   where
-    c : Memory
-    c = held a l v t
-
     u : List Write
     u = unlinkWrites k (link a x) none
-
-    split : ℕ → ℕ → List Write
-    split q h = (u ++ pushWrites q (y + m) h) ++ splitWrites y s m
-
-    rest : Script (List Write)
-    rest = mustList classes (s - m) >> (seeHead (grains 8 a) (listOf (s - m)) >>= λ g. done (split (listOf (s - m)) (latest u Next (root (listOf (s - m))) g)))
-
-    listed : run c rest ≡ run c (seeHead (grains 8 a) q >>= λ g. done (split q (latest u Next (root q) g)))
-    listed = goes c (mustList classes (s - m)) _ (gives-le c 5 (suc (listOf (s - m))) (16 * classes) (omega arith))
-        ∙ ap (λ (z : ℕ). run c (seeHead (grains 8 a) z >>= λ g. done (split z (latest u Next (root z) g)))) (sym e)
 
     head : link a h ≡ latest u Next (root q) (link a (r .word))
     head = ap (link a) d ∙ link-either a q k x (r .word) ∙ sym (head-latest k (link a x) q (link a (r .word)))
 
-    go : (b : Bool) → answer b (link a (r .word)) ≡ run c (seeHead (grains 8 a) q) → answer b (leftWrites a k x y s m q h) ≡ run c rest
-    go true z = ap ok (eq-no m s _ _ n ∙ ap (split q) head) ∙ sym (listed ∙ goes c (seeHead (grains 8 a) q) _ (sym z) ∙ gives-done c _)
-    go false z = sym (listed ∙ halts c (seeHead (grains 8 a) q) _ (sym z))
-
-pub rest-some : (a l : List ℕ) (k x s m q h : ℕ) (r : Head) → length a < 18446744073709551616 → (m ≡ s → ⊥) → q ≡ listOf (s - m) → q < lists → SeenHead a l q r
-    → h ≡ ifEq q k x (r .word) → SeenRest a l k x s m (record { ok = r .ok; list = q; head = h })
-rest-some a l k x s m q h r f n e j w d = record {
-  seen = rest-shown a l k x s m q h r n e j w d;
-  ready = λ _ b. (j, λ g. subst (Leads a) (sym d) (eq-case (Leads a) q k x (r .word) (λ _. g) (λ _. head-leads a l q r f w b)));
-}
+    go : (v t : List ℕ) (y : ℕ) (b : Bool) → r .ok ≡ b → answer b (leftWrites a k x y s m q h) ≡ run (held a l v t) (leaveScript (grains 8 a) classes u y s m)
+    go v t y true o = left-listed a l v t u y s m n q e j r (w v t) o h head
+    go v t y false o = left-headless a l v t u y s m n q e j r (w v t) o

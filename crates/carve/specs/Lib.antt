@@ -1,2 +1,3 @@
--- The writes that make a block, as they stand in the arena.
+-- The writes that make a block, as they stand in the arena (Made), and what of it is left, as the script answers it (Left).
 pub mod Made
+pub mod Left

@@ -7,22 +7,23 @@ use mathlib.Core.List.{List, _++_}
 use lib.ListN.{length}
 use Rattle.bits.specs.Map.{lists}
 use Rattle.class.specs.Class.{listOf}
-use Rattle.script.specs.Memory.{Next, Prev, root, Write, latest}
+use Rattle.script.specs.Memory.{Next, root, Write, latest}
 use Rattle.script.specs.Script.{done, ok, no, run, _>>=_, goes, halts, gives-done, gives-le, halts-le}
-use Rattle.sound.specs.Checks.{Entry, Owner, Beside, mustList, seeHead, seeBehind, seeBefore, seeOwner}
-use Rattle.sound.specs.Links.{unlinkWrites, pushWrites}
-use Rattle.sound.specs.Plans.{roomOf, leaves, afterwards, bothLeave, freeWrites, joinScript, giveBackScript}
+use Rattle.sound.specs.Checks.{Owner, mustList, seeHead, seeBehind, seeBefore, seeOwner}
+use Rattle.sound.specs.Links.{pushWrites}
+use Rattle.sound.specs.Plans.{roomOf, bothLeave, freeWrites, joinScript, giveBackScript}
 use Rattle.slices.specs.Decode.{grains}
 use Rattle.free_list.specs.Lent.{held, classes, link}
 use Rattle.free_list.specs.Answers.{answer, unless}
 use Rattle.free_list.specs.Seen.{shownHead}
 use Rattle.free_list.specs.declared.Head.{Head}
-use Rattle.neighbours.specs.Shown.{shownOwner, someone, shownBeside}
+use Rattle.neighbours.specs.Shown.{shownOwner, shownBeside}
 use Rattle.neighbours.specs.declared.Owner.{Owner as OwnerAnswer}
 use Rattle.neighbours.specs.declared.Beside.{Beside as BesideAnswer}
-use Rattle.deallocate.specs.declared.Neighbour.{Neighbour}
-use Rattle.deallocate.specs.After.{relinked, headed, leaving, latest-append, next-after, prev-after, head-after}
-use Rattle.deallocate.specs.Shown.{bothLeaving, leavingOf, Known, mergeScript, listed}
+use Rattle.neighbours.specs.declared.Neighbour.{Neighbour}
+use Rattle.neighbours.specs.After.{relinked, headed, leaving, latest-append, head-after}
+use Rattle.neighbours.specs.Leaving.{Known, leavingOf, bothLeaving, listed, seenOf, room-is, both-leave}
+use Rattle.deallocate.specs.Shown.{mergeScript}
 
 -- ---- the list of the joined block, of g grains at z
 
@@ -62,40 +63,6 @@ head-joined a e f k h u x s i j p q =
     ∙ sym (latest-append (leavingOf a e) (leavingOf a f) Next (root k) (link a h))
 
 -- ---- the neighbours
-
-room-is : (g : ℕ) (e : Entry) → roomOf (someone g e) ≡ g
-room-is zero e = refl
-room-is (suc g) e = refl
-
-module _ (a : List ℕ) (k x p : ℕ) where
-  leaves-is : (g : ℕ) → k ≡ listed g → leaves (someone g (record { next = link a x; prev = link a p })) ≡ leaving a g k x p
-  unfolding listed
-  leaves-is zero e = refl
-  leaves-is (suc g) e = ap (λ (i : ℕ). unlinkWrites i (link a x) (link a p)) (sym e)
-
-  -- the second, after the writes w
-  after-is : (w : List Write) (z g : ℕ) (o : Entry) → k ≡ listed g → link a x ≡ latest w Next z (o .next) → link a p ≡ latest w Prev z (o .prev)
-      → leaves (afterwards w z (someone g o)) ≡ leaving a g k x p
-  unfolding listed
-  after-is w z zero o e f h = refl
-  after-is w z (suc g) o e f h =
-      ap (λ (i : ℕ). unlinkWrites i (latest w Next z (o .next)) (latest w Prev z (o .prev))) (sym e)
-      ∙ ap (λ (y : ℕ). unlinkWrites k y (latest w Prev z (o .prev))) (sym f) ∙ ap (unlinkWrites k (link a x)) (sym h)
-
--- what was seen of a neighbour
-abbrev seenOf : List ℕ → BesideAnswer → Beside
-seenOf a r = someone (r .grains) (record { next = link a (r .next); prev = link a (r .prev) })
-
--- both leave, the second from a list in which the first is no more
-both-leave : (a : List ℕ) (e f : BesideAnswer) (z i j y u : ℕ) → length a < 18446744073709551616 → z < grains 8 a → i ≡ listed (e .grains) → j ≡ listed (f .grains)
-    → y ≡ relinked (e .grains) (e .prev) (32 * z) (e .next) (f .next) → u ≡ relinked (e .grains) (e .next) (32 * z) (e .prev) (f .prev)
-    → bothLeave (seenOf a e) z (seenOf a f) ≡ leaving a (e .grains) i (e .next) (e .prev) ++ leaving a (f .grains) j y u
-both-leave a e f z i j y u s h p q c d =
-    let w = leaving a (e .grains) i (e .next) (e .prev) in
-    ap (λ (w : List Write). w ++ leaves (afterwards w z (seenOf a f))) (leaves-is a i (e .next) (e .prev) (e .grains) p)
-    ∙ ap (λ (o : List Write). w ++ o) (after-is a j y u w z (f .grains) (record { next = link a (f .next); prev = link a (f .prev) }) q
-    (ap (link a) c ∙ next-after a i (e .next) (e .prev) s (e .grains) z (f .next) h)
-    (ap (link a) d ∙ prev-after a i (e .next) (e .prev) s (e .grains) z (f .prev) h))
 
 module _ (a l v t : List ℕ) (q x s : ℕ) (e : BesideAnswer) (p : shownBeside a e ≡ run (held a l v t) (seeBehind (grains 8 a) classes (x + s))) where
   -- what is behind doesn't agree

@@ -1,6 +1,4 @@
 -- The plan of a return as the script answers it, and the script's steps in the order in which the code finds them.
-pub mod After
 pub mod Shown
-pub mod Within
 pub mod Join
 pub mod Written

@@ -1,10 +1,9 @@
 -- A plan of the code, as the script answers it: the writes, spelled from the plan's numbers; and what makes them possible.
-use Prim.Native.Nat.{ℕ, zero, suc, _+_, _-_, _<_}
+use Prim.Native.Nat.{ℕ, _+_, _-_, _<_}
 use native.Mathlib.Omega.{arith}
-use mathlib.Core.Path.{_≡_, refl, ap, _∙_}
+use mathlib.Core.Path.{_≡_, ap, _∙_}
 use mathlib.Core.List.{List, _++_}
 use Rattle.bits.specs.Map.{lists}
-use Rattle.class.specs.Class.{listOf}
 use Rattle.script.specs.Memory.{Write}
 use Rattle.script.specs.Script.{Script, Result, no, run, _>>=_}
 use Rattle.sound.specs.Checks.{seeBehind, seeBefore}
@@ -13,17 +12,10 @@ use Rattle.sound.specs.Plans.{Plan, roomOf, bothLeave, freeWrites, joinScript, 
 use Rattle.slices.specs.Decode.{grains}
 use Rattle.free_list.specs.Lent.{held, classes, link, Leads}
 use Rattle.free_list.specs.Answers.{unless, unless-no}
-use Rattle.deallocate.specs.declared.Neighbour.{Neighbour}
+use Rattle.neighbours.specs.Leaving.{Known, bothLeaving}
 use Rattle.deallocate.specs.declared.Plan.{Plan as PlanAnswer}
-use Rattle.deallocate.specs.After.{leaving}
 
 -- ---- the writes
-
-abbrev pub leavingOf : List ℕ → Neighbour → List Write
-leavingOf a e = leaving a (e .grains) (e .list) (e .next) (e .prev)
-
-abbrev pub bothLeaving : List ℕ → Neighbour → Neighbour → List Write
-bothLeaving a e f = leavingOf a e ++ leavingOf a f
 
 abbrev pub backWrites : List ℕ → ℕ → PlanAnswer → List Write
 backWrites a q r = (bothLeaving a (r .behind) (r .before) ++ pushWrites (r .list) (r .at) (link a (r .head))) ++ freeWrites q (r .at) (r .grains)
@@ -42,15 +34,6 @@ pub shown-damaged : (a : List ℕ) (q : ℕ) (r : PlanAnswer) → r .refusal ≡
 shown-damaged a q r e = shown-refused a q 5 r e (λ q. omega arith)
 
 -- ---- what is asked for writing them: lists that are there, links that lead
-
-pub record Linked (a : List ℕ) (e : Neighbour) : Type 0 where
-  pub list : e .list < lists
-  pub next : Leads a (e .next)
-  pub prev : Leads a (e .prev)
-
--- where there is one
-abbrev pub Known : List ℕ → Neighbour → Type 0
-Known a e = (e .grains ≡ 0 → ⊥) → Linked a e
 
 pub record Able (a : List ℕ) (r : PlanAnswer) : Type 0 where
   pub behind : Known a (r .behind)
@@ -80,23 +63,3 @@ pub record Planned (a l : List ℕ) (S : ℕ → Script Plan) (r : PlanAnswer) :
 pub record BackPlanned (a l v : List ℕ) (q : ℕ) (r : PlanAnswer) : Type 0 where
   pub answer : (t : List ℕ) → shown a q r ≡ run (held a l v t) (giveBackScript (grains 8 a) classes q)
   pub able : r .refusal ≡ 0 → Able a r
-
--- the list of a neighbour, if there is one
-unfoldable pub listed : ℕ → ℕ
-listed zero = 0
-listed (suc g) = listOf (suc g)
-
-pub listed-nobody : (g : ℕ) → g ≡ 0 → 0 ≡ listed g
-unfolding listed
-listed-nobody zero e = refl
-listed-nobody (suc g) e = absurd (omega arith)
-
-pub listed-some : (g k : ℕ) → (g ≡ 0 → ⊥) → k ≡ listOf g → k ≡ listed g
-unfolding listed
-listed-some zero k n e = absurd (n refl)
-listed-some (suc g) k n e = e
-
-pub listed-below : (g k : ℕ) → (g ≡ 0 → ⊥) → k ≡ listed g → listOf g < lists → k < lists
-unfolding listed
-listed-below zero k n e h = absurd (n refl)
-listed-below (suc g) k n e h = omega arith

@@ -1,6 +1,6 @@
 -- What is written for a return, part by part: the neighbours leave, the joined block goes to the head of its list, it is
 -- marked as free at both ends, and its payload is not live any more.
-use Prim.Native.Nat.{ℕ, zero, suc, _+_, _*_, _<_}
+use Prim.Native.Nat.{ℕ, _+_, _*_, _<_}
 use native.Mathlib.Omega.{arith}
 use mathlib.Core.Path.{_≡_, refl, ap, sym, _∙_}
 use mathlib.Core.List.{List, _++_}
@@ -9,43 +9,16 @@ use Rattle.choice.specs.Choice.{eq-yes}
 use Rattle.word.specs.Word.{putAt}
 use Rattle.bits.specs.TableBit.{clearTableBit, setTableBit}
 use Rattle.script.specs.Memory.{Before, freeWord, Write}
-use Rattle.sound.specs.Links.{unlinkWrites, pushWrites}
+use Rattle.sound.specs.Links.{pushWrites}
 use Rattle.sound.specs.Plans.{freeWrites}
 use Rattle.slices.specs.Decode.{grains, sizeWord, free-stored}
 use Rattle.slices.specs.Arena.{putSize, putLink}
-use Rattle.free_list.specs.Lent.{lent, link, link-keep, leads-keep, grain-stored}
-use Rattle.free_list.specs.Written.{Written, WrittenLive, live-then, written-none, written-then, written-as, written-length}
-use Rattle.deallocate.specs.declared.Neighbour.{Neighbour}
+use Rattle.free_list.specs.Lent.{lent, link, link-keep, grain-stored}
+use Rattle.free_list.specs.Written.{Written, WrittenLive, live-then, written-then, written-as, written-length}
+use Rattle.neighbours.specs.declared.Neighbour.{Neighbour}
+use Rattle.neighbours.specs.Leaving.{leavingOf, bothLeaving, leaving-keep}
 use Rattle.deallocate.specs.declared.Plan.{Plan as PlanAnswer}
-use Rattle.deallocate.specs.After.{leaving}
-use Rattle.deallocate.specs.Shown.{leavingOf, bothLeaving, Known, Able}
-
--- ---- a neighbour
-
--- nobody leaves
-pub left-nobody : (a l : List ℕ) (e : Neighbour) → e .grains ≡ 0 → Written a l (leavingOf a e) a l
-left-nobody a l e n = go (e .grains) n
-  where
-    go : (g : ℕ) → g ≡ 0 → Written a l (leaving a g (e .list) (e .next) (e .prev)) a l
-    go zero n = written-none a l
-    go (suc g) n = absurd (omega arith)
-
--- one does
-pub left-list : (a l b m : List ℕ) (e : Neighbour) → (e .grains ≡ 0 → ⊥) → Written a l (unlinkWrites (e .list) (link a (e .next)) (link a (e .prev))) b m → Written a l (leavingOf a e) b m
-left-list a l b m e n h = go (e .grains) n
-  where
-    go : (g : ℕ) → (g ≡ 0 → ⊥) → Written a l (leaving a g (e .list) (e .next) (e .prev)) b m
-    go zero n = absurd (n refl)
-    go (suc g) n = h
-
--- only the arena's length counts
-leaving-keep : (a b : List ℕ) (g k x p : ℕ) → length b ≡ length a → leaving a g k x p ≡ leaving b g k x p
-leaving-keep a b zero k x p e = refl
-leaving-keep a b (suc g) k x p e =
-    ap (λ (y : ℕ). unlinkWrites k y (link a p)) (sym (link-keep a b x e)) ∙ ap (unlinkWrites k (link b x)) (sym (link-keep a b p e))
-
-pub known-keep : (a b : List ℕ) (f : Neighbour) → length b ≡ length a → Known a f → Known b f
-known-keep a b f e k n = record { list = k n .list; next = leads-keep a b (f .next) e (k n .next); prev = leads-keep a b (f .prev) e (k n .prev) }
+use Rattle.deallocate.specs.Shown.{Able}
 
 -- the joined block starts in the arena
 pub at-start : (a : List ℕ) (r : PlanAnswer) → Able a r → r .at < grains 8 a

@@ -5,26 +5,19 @@ ghost use Prim.Native.Nat.{_+_, _*_, _≤_, _<_};
 ghost use lib.ListN.{length};
 ghost use Rattle.sound.specs.Plans.{joinScript};
 ghost use Rattle.slices.specs.Decode.{grains};
-ghost use Rattle.free_list.specs.Written.{Written, WrittenLive};
+ghost use Rattle.free_list.specs.Written.{WrittenLive};
 ghost use Rattle.free_list.specs.Lent.{classes, Long};
-ghost use Rattle.deallocate.specs.After.{relinked, headed};
-ghost use Rattle.deallocate.specs.Shown.{leavingOf, bothLeaving, backWrites, Known, Able, Planned, BackPlanned, mergeScript, listed};
+ghost use Rattle.neighbours.specs.Leaving.{Known, bothLeaving};
+ghost use Rattle.deallocate.specs.Shown.{backWrites, Able, Planned, BackPlanned, mergeScript};
 ghost use Rattle.deallocate.specs.Written.{freed};
 use bits::LISTS;
 use header::BEFORE;
 use header::NONE;
 use header::SIZE;
+use neighbours::Neighbour;
 
 // The records contradict each other.
 const DAMAGED: u64 = 5;
-
-// A free neighbour that leaves its list, where it is before one block and behind another; nobody has no grains.
-pub struct Neighbour {
-    pub grains: usize,
-    pub list: usize,
-    pub next: u64,
-    pub prev: u64,
-}
 
 // Why the call is refused, unless with 0; the joined block, the neighbours that leave, in this order, and the list to which
 // it goes, with the head that it is put before.
@@ -68,15 +61,15 @@ fn plan_merge(a: &[u8], lists: &[u64], x: usize, s: usize) -> Plan
     let z = x - f.grains;
     let behind = Neighbour {
         grains: e.grains,
-        list: list_of(e.grains),
+        list: neighbours::list_of(e.grains),
         next: e.next,
         prev: e.prev,
     };
     let before = Neighbour {
         grains: f.grains,
-        list: list_of(f.grains),
-        next: after(e.grains, e.prev, z, e.next, f.next),
-        prev: after(e.grains, e.next, z, e.prev, f.prev),
+        list: neighbours::list_of(f.grains),
+        next: neighbours::after(e.grains, e.prev, z, e.next, f.next),
+        prev: neighbours::after(e.grains, e.next, z, e.prev, f.prev),
     };
     plan_join(a, lists, z, f.grains + (s + e.grains), behind, before)
 }
@@ -102,7 +95,7 @@ fn plan_join(
     if !h.ok {
         return refused(DAMAGED);
     }
-    let first = head_after(
+    let first = neighbours::head_after(
         behind.grains,
         behind.list,
         behind.next,
@@ -110,7 +103,7 @@ fn plan_join(
         list,
         h.word,
     );
-    let head = head_after(
+    let head = neighbours::head_after(
         before.grains,
         before.list,
         before.next,
@@ -137,67 +130,11 @@ fn refused(why: u64) -> Plan
         refusal: why,
         at: 0,
         grains: 0,
-        behind: nobody(),
-        before: nobody(),
+        behind: neighbours::no_neighbour(),
+        before: neighbours::no_neighbour(),
         list: 0,
         head: NONE,
     }
-}
-
-// No neighbour.
-fn nobody() -> Neighbour
-    ensures { λ r. ⌜ r .grains ≡ 0 ⌝ }
-{
-    Neighbour {
-        grains: 0,
-        list: 0,
-        next: NONE,
-        prev: NONE,
-    }
-}
-
-// The list of a neighbour of g grains, if there is one.
-fn list_of(g: usize) -> usize
-    requires { ⌜ g < 576460752303423488 ⌝ }
-    ensures { λ r. ⌜ r ≡ listed g ⌝ }
-{
-    if g == 0 {
-        return 0;
-    }
-    class::map_floor(g as u64) as usize
-}
-
-// ---- what the leaving of a neighbour changes
-
-// The link v of the grain z, after a neighbour of g grains left its list; its link b, where it led to z, was what led from z
-// to it, and leads to w now.
-fn after(g: usize, b: u64, z: usize, w: u64, v: u64) -> u64
-    requires { ⌜ z < 576460752303423488 ⌝ }
-    ensures { λ r. ⌜ r ≡ relinked g b (32 * z) w v ⌝ }
-{
-    if g == 0 {
-        return v;
-    }
-    if b == header::bytes_of(z) {
-        return w;
-    }
-    v
-}
-
-// The head h of list j, after a neighbour of g grains left list k, where it was before x and behind p.
-fn head_after(g: usize, k: usize, x: u64, p: u64, j: usize, h: u64) -> u64
-    ensures { λ r. ⌜ r ≡ headed g k x p j h ⌝ }
-{
-    if g == 0 {
-        return h;
-    }
-    if p != NONE {
-        return h;
-    }
-    if k != j {
-        return h;
-    }
-    x
 }
 
 // ---- what is written
@@ -208,23 +145,11 @@ pub fn apply_back(a: &mut [u8], lists: &mut [u64], live: &mut [u64], q: usize, p
     ensures { λ r. ⌜ WrittenLive (now (a .entry)) (now (lists .entry)) (now (live .entry)) (backWrites (now (a .entry)) q p)
         (now (a .exit)) (now (lists .exit)) (now (live .exit)) ⌝ }
 {
-    leave(a, lists, p.behind);
-    leave(a, lists, p.before);
+    neighbours::leave(a, lists, p.behind);
+    neighbours::leave(a, lists, p.before);
     free_list::push(a, lists, p.list, p.at, p.head);
     put_free(a, p.at, p.grains);
     bits::clear_table_bit(live, q);
-}
-
-// A neighbour leaves its list, if there is one.
-fn leave(a: &mut [u8], lists: &mut [u64], e: Neighbour)
-    requires { ⌜ Known (now a) e × Long (now lists) ⌝ }
-    ensures { λ r. ⌜ Written (now (a .entry)) (now (lists .entry)) (leavingOf (now (a .entry)) e)
-        (now (a .exit)) (now (lists .exit)) ⌝ }
-{
-    if e.grains == 0 {
-        return;
-    }
-    free_list::unlink(a, lists, e.list, e.next, e.prev);
 }
 
 // A free block of t grains at z.

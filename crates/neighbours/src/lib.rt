@@ -5,8 +5,11 @@ ghost use Prim.Native.Nat.{_*_, _≤_, _<_};
 ghost use lib.ListN.{length};
 ghost use Rattle.slices.specs.Decode.{grains};
 ghost use Rattle.free_list.specs.Lent.{Long};
+ghost use Rattle.free_list.specs.Written.{Written};
 ghost use Rattle.neighbours.specs.Shown.{refusal, alone, SeenOwner, SeenBlock, SeenBehind, SeenBefore};
 ghost use Rattle.neighbours.specs.Beside.{SeenListed};
+ghost use Rattle.neighbours.specs.After.{relinked, headed};
+ghost use Rattle.neighbours.specs.Leaving.{Known, leavingOf, listed};
 use bits::LISTS;
 use header::BEFORE;
 use header::NONE;
@@ -166,4 +169,82 @@ fn nobody(ok: bool) -> Beside
         next: NONE,
         prev: NONE,
     }
+}
+
+// ---- a free neighbour leaves its list
+
+// A free neighbour that leaves its list, where it is before one block and behind another; nobody has no grains.
+pub struct Neighbour {
+    pub grains: usize,
+    pub list: usize,
+    pub next: u64,
+    pub prev: u64,
+}
+
+// No neighbour.
+pub fn no_neighbour() -> Neighbour
+    ensures { λ r. ⌜ r .grains ≡ 0 ⌝ }
+{
+    Neighbour {
+        grains: 0,
+        list: 0,
+        next: NONE,
+        prev: NONE,
+    }
+}
+
+// The list of a neighbour of g grains, if there is one.
+pub fn list_of(g: usize) -> usize
+    requires { ⌜ g < 576460752303423488 ⌝ }
+    ensures { λ r. ⌜ r ≡ listed g ⌝ }
+{
+    if g == 0 {
+        return 0;
+    }
+    class::map_floor(g as u64) as usize
+}
+
+// A neighbour leaves its list, if there is one.
+pub fn leave(a: &mut [u8], lists: &mut [u64], e: Neighbour)
+    requires { ⌜ Known (now a) e × Long (now lists) ⌝ }
+    ensures { λ r. ⌜ Written (now (a .entry)) (now (lists .entry)) (leavingOf (now (a .entry)) e)
+        (now (a .exit)) (now (lists .exit)) ⌝ }
+{
+    if e.grains == 0 {
+        return;
+    }
+    free_list::unlink(a, lists, e.list, e.next, e.prev);
+}
+
+// ---- what the leaving of a neighbour changes
+
+// The link v of the grain z, after a neighbour of g grains left its list; its link b, where it led to z, was what led from z
+// to it, and leads to w now.
+pub fn after(g: usize, b: u64, z: usize, w: u64, v: u64) -> u64
+    requires { ⌜ z < 576460752303423488 ⌝ }
+    ensures { λ r. ⌜ r ≡ relinked g b (32 * z) w v ⌝ }
+{
+    if g == 0 {
+        return v;
+    }
+    if b == header::bytes_of(z) {
+        return w;
+    }
+    v
+}
+
+// The head h of list j, after a neighbour of g grains left list k, where it was before x and behind p.
+pub fn head_after(g: usize, k: usize, x: u64, p: u64, j: usize, h: u64) -> u64
+    ensures { λ r. ⌜ r ≡ headed g k x p j h ⌝ }
+{
+    if g == 0 {
+        return h;
+    }
+    if p != NONE {
+        return h;
+    }
+    if k != j {
+        return h;
+    }
+    x
 }

@@ -3,13 +3,12 @@ use Prim.Native.Nat.{ℕ, _+_, _*_, _/_, _≤_, _<_}
 use native.Mathlib.Omega.{arith}
 use mathlib.Core.Path.{_≡_, refl, ap, sym, _∙_, subst}
 use mathlib.Core.List.{List, [], _∷_, _++_, append-assoc}
-use mathlib.Core.Logic.{⊎-elim}
 use lib.ListN.{length}
-use Rattle.choice.specs.Choice.{eq-yes, eq-no, same?}
+use Rattle.choice.specs.Choice.{eq-no}
 use Rattle.bits.specs.TableBit.{setTableBit, clearTableBit}
 use Rattle.script.specs.Memory.{Live, none, Write, _at_≔_}
-use Rattle.sound.specs.Links.{unlinkWrites, pushWrites}
-use Rattle.sound.specs.Plans.{splitWrites, padWrites}
+use Rattle.sound.specs.Links.{unlinkWrites}
+use Rattle.sound.specs.Plans.{padWrites}
 use Rattle.slices.specs.Decode.{grains}
 use Rattle.slices.specs.Slices.{stores}
 use Rattle.free_list.specs.Lent.{lent, Room, noLink, link, Leads, link-keep, link-none}
@@ -34,14 +33,6 @@ pub record Ready (a l v : List ℕ) (k x y s m q h d : ℕ) : Type 0 where
 abbrev pub takenWrites : List ℕ → ℕ → ℕ → ℕ → ℕ → ℕ → ℕ → ℕ → ℕ → List Write
 takenWrites a k x y s m q h d = leftWrites a k x y s m q h ++ (padWrites y d ++ ((Live at 2 * y + d ≔ 1) ∷ []))
 
--- the writes that leave the list, and then those that make the block
-left-is : (a : List ℕ) (k x y s m q h : ℕ) → leftWrites a k x y s m q h ≡ unlinkWrites k (link a x) none ++ leftBehind y s m q (link a h)
-left-is a k x y s m q h = ⊎-elim
-    (λ (e : m ≡ s). eq-yes m s _ _ e ∙ ap (λ (w : List Write). unlinkWrites k (link a x) none ++ w) (sym (eq-yes m s _ _ e)))
-    (λ (n : m ≡ s → ⊥). eq-no m s _ _ n ∙ append-assoc (unlinkWrites k (link a x) none) (pushWrites q (y + m) (link a h)) (splitWrites y s m)
-    ∙ ap (λ (w : List Write). unlinkWrites k (link a x) none ++ w) (sym (eq-no m s _ _ n)))
-    (same? m s)
-
 -- the writes w, and then those of the pad and of the live bit
 ordered : (u w p z : List Write) → (u ++ (w ++ p)) ++ z ≡ (u ++ w) ++ (p ++ z)
 ordered u w p z = simp append-assoc
@@ -51,9 +42,7 @@ pub take-made : (a l v b n c o e i : List ℕ) (k x y s m q h d : ℕ) → lengt
     → Written a l (unlinkWrites k (link a x) (link a noLink)) b n → Written b n (leftBehind y s m q (link b h)) c o → WrittenInArena c (padWrites y d) e → i ≡ setTableBit v (2 * y + d)
     → WrittenLive a l v (takenWrites a k x y s m q h d) e o i
 take-made a l v b n c o e i k x y s m q h d f w1 w2 w3 g =
-    subst (λ (w : List Write). WrittenLive a l v w e o i)
-    (ordered u r (padWrites y d) bit ∙ ap (λ (w : List Write). w ++ (padWrites y d ++ bit)) (sym (left-is a k x y s m q h)))
-    (live-then bit whole lit)
+    subst (λ (w : List Write). WrittenLive a l v w e o i) (ordered u r (padWrites y d) bit) (live-then bit whole lit)
   where
     u : List Write
     u = unlinkWrites k (link a x) none

@@ -5,8 +5,8 @@ use Rattle.sound.specs.Links.{pushWrites}
 use Rattle.slices.specs.Decode.{grains-keep}
 use Rattle.free_list.specs.Lent.{link, leads-keep}
 use Rattle.free_list.specs.Written.{written-length, written-room}
-use Rattle.deallocate.specs.Shown.{leavingOf, bothLeaving}
-use Rattle.deallocate.specs.Written.{known-keep, relisted, returned, at-start}
+use Rattle.neighbours.specs.Leaving.{leavingOf, bothLeaving, known-keep}
+use Rattle.deallocate.specs.Written.{relisted, returned, at-start}
 use borrow.Author.Needs.{needs}
 use Rattle.deallocate.proofs.apply_back.Statement.{statement}
 use Rattle.deallocate.proofs.apply_back.Tie as tie

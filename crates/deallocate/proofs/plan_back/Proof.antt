@@ -1,8 +1,8 @@
 -- `deallocate::plan_back`: refused as its owner is refused, or all hangs on the block that was found.
 use mathlib.Core.Path.{sym, _∙_}
 use mathlib.Core.List.{[]}
+use Rattle.neighbours.specs.Within.{owner-within}
 use Rattle.deallocate.specs.Shown.{shown-refused}
-use Rattle.deallocate.specs.Within.{owner-within}
 use Rattle.deallocate.specs.Join.{back-refused, back-found}
 use borrow.Author.Needs.{needs}
 use Rattle.deallocate.proofs.plan_back.Statement.{statement}

@@ -6,8 +6,9 @@ use borrow.Author.Tests.{not-true, not-false}
 use Rattle.header.specs.Turned.{grains-few}
 use Rattle.free_list.specs.Lent.{Leads}
 use Rattle.free_list.specs.Leading.{head-leads}
-use Rattle.deallocate.specs.Shown.{bothLeaving, shown-damaged, damaged-unable}
-use Rattle.deallocate.specs.Within.{headed-leads}
+use Rattle.neighbours.specs.Leaving.{bothLeaving}
+use Rattle.neighbours.specs.Within.{headed-leads}
+use Rattle.deallocate.specs.Shown.{shown-damaged, damaged-unable}
 use Rattle.deallocate.specs.Join.{join-unlisted, join-headless, joined, head-joined}
 use borrow.Author.Needs.{needs}
 use Rattle.deallocate.proofs.plan_join.Statement.{statement}

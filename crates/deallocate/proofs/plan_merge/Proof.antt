@@ -7,8 +7,8 @@ use mathlib.Core.List.{[]}
 use borrow.Author.Tests.{not-true, not-false}
 use Rattle.slices.specs.Decode.{grains}
 use Rattle.header.specs.Turned.{grains-few}
+use Rattle.neighbours.specs.Within.{Sighted, behind-within, before-within, known-first, known-second}
 use Rattle.deallocate.specs.Shown.{shown-damaged, damaged-unable}
-use Rattle.deallocate.specs.Within.{Sighted, behind-within, before-within, known-first, known-second}
 use Rattle.deallocate.specs.Join.{merge-behind-out, merge-before-out, merged}
 use borrow.Author.Needs.{needs}
 use Rattle.deallocate.proofs.plan_merge.Statement.{statement}

@@ -1,5 +1,5 @@
--- What was seen of the block that is returned, and of its neighbours, lies in the arena, and their links lead: so the joined
--- block can be counted and all that is planned can be written.
+-- What was seen of the block of a payload, and of its neighbours, lies in the arena, and their links lead: so what they are
+-- together can be counted and all that is planned can be written.
 use Prim.Native.Nat.{ℕ, zero, suc, _+_, _≤_, _<_}
 use native.Mathlib.Omega.{arith}
 use mathlib.Core.Path.{_≡_, refl, ap, sym, _∙_, subst}
@@ -20,11 +20,11 @@ use Rattle.slices.specs.Slices.{memory-size}
 use Rattle.free_list.specs.Lent.{lent, held, classes, noLink, link, Leads}
 use Rattle.free_list.specs.Answers.{answer, unless}
 use Rattle.free_list.specs.Leading.{leads-valid}
 use Rattle.neighbours.specs.Shown.{shownOwner, someone, shownBeside}
 use Rattle.neighbours.specs.declared.Owner.{Owner as OwnerAnswer}
 use Rattle.neighbours.specs.declared.Beside.{Beside as BesideAnswer}
-use Rattle.deallocate.specs.After.{relinked, headed}
-use Rattle.deallocate.specs.Shown.{Known, listed, listed-below}
+use Rattle.neighbours.specs.After.{relinked, headed}
+use Rattle.neighbours.specs.Leaving.{Known, listed, listed-below}
 
 -- ---- the block
 

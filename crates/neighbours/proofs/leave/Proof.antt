@@ -1,8 +1,8 @@
--- `deallocate::leave`: nobody leaves, or one is unlinked.
-use Rattle.deallocate.specs.Written.{left-nobody, left-list}
+-- `neighbours::leave`: nobody leaves, or one is unlinked.
+use Rattle.neighbours.specs.Leaving.{left-nobody, left-list}
 use borrow.Author.Needs.{needs}
-use Rattle.deallocate.proofs.leave.Statement.{statement}
-use Rattle.deallocate.proofs.leave.Tie as tie
+use Rattle.neighbours.proofs.leave.Statement.{statement}
+use Rattle.neighbours.proofs.leave.Tie as tie
 
 returns : tie.Need-returns
 returns c =

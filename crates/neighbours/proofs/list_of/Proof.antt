@@ -1,8 +1,8 @@
--- `deallocate::list_of`: nobody has no list.
-use Rattle.deallocate.specs.Shown.{listed-nobody, listed-some}
+-- `neighbours::list_of`: nobody has no list.
+use Rattle.neighbours.specs.Leaving.{listed-nobody, listed-some}
 use borrow.Author.Needs.{needs}
-use Rattle.deallocate.proofs.list_of.Statement.{statement}
-use Rattle.deallocate.proofs.list_of.Tie as tie
+use Rattle.neighbours.proofs.list_of.Statement.{statement}
+use Rattle.neighbours.proofs.list_of.Tie as tie
 
 returns : tie.Need-returns
 returns c = listed-nobody _ (c .if1 .taken)

@@ -1,6 +1,6 @@
--- A neighbour of the block that is returned leaves its list: what is written then, and what its leaving changes of what was
--- read before it. The two neighbours may be beside each other in one list, and one of them may be the head of the list to
--- which the joined block goes. Links are words of the arena; a neighbour of 0 grains is not there.
+-- A free neighbour of a used block leaves its list: what is written then, and what its leaving changes of what was read
+-- before it. The two neighbours may be beside each other in one list, and one of them may be the head of the list to which
+-- a joined or left-over block goes. Links are words of the arena; a neighbour of 0 grains is not there.
 use Prim.Native.Nat.{ℕ, zero, suc, _+_, _*_, _<_}
 use native.Mathlib.Omega.{arith}
 use mathlib.Core.Path.{_≡_, refl, ap, sym, _∙_}

@@ -1,9 +1,9 @@
--- `deallocate::after`: each return is one case of a link that may have changed.
+-- `neighbours::after`: each return is one case of a link that may have changed.
 use mathlib.Core.Path.{_∙_, sym}
-use Rattle.deallocate.specs.After.{relinked-nobody, relinked-same, relinked-other}
+use Rattle.neighbours.specs.After.{relinked-nobody, relinked-same, relinked-other}
 use borrow.Author.Needs.{needs}
-use Rattle.deallocate.proofs.after.Statement.{statement}
-use Rattle.deallocate.proofs.after.Tie as tie
+use Rattle.neighbours.proofs.after.Statement.{statement}
+use Rattle.neighbours.proofs.after.Tie as tie
 
 returns : tie.Need-returns
 returns c = relinked-nobody _ _ _ _ _ (c .if1 .taken)

@@ -1,7 +1,7 @@
--- `deallocate::head_after`: each return is one case of a head that may have changed.
-use Rattle.deallocate.specs.After.{headed-nobody, headed-behind, headed-elsewhere, headed-there}
-use Rattle.deallocate.proofs.head_after.Statement.{statement}
-use Rattle.deallocate.proofs.head_after.Tie as tie
+-- `neighbours::head_after`: each return is one case of a head that may have changed.
+use Rattle.neighbours.specs.After.{headed-nobody, headed-behind, headed-elsewhere, headed-there}
+use Rattle.neighbours.proofs.head_after.Statement.{statement}
+use Rattle.neighbours.proofs.head_after.Tie as tie
 
 returns : tie.Need-returns
 returns c = headed-nobody _ _ _ _ _ _ (c .if1 .taken)
