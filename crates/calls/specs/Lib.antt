@@ -5,6 +5,7 @@ pub mod Storable
 pub mod Refines
 pub mod Begins
 pub mod Untouched
+pub mod Fills
 pub mod Runs
 pub mod One
 pub mod Conditions

@@ -1,6 +1,6 @@
--- T5: any number of calls, one after the other, on slices. From tables that `init` made the replies are the definition's,
--- one by one, and the slices at the end stand for the definition's heap: for every list of calls, whatever their numbers,
--- with as many regions among them as the table has room for.
+-- T5: any number of calls, one after the other, on slices, and between them what the caller writes into live payloads. From
+-- tables that `init` made the replies are the definition's, one by one, and the slices at the end stand for the definition's
+-- heap: for every list of calls, whatever their numbers, with as many regions among them as the table has room for.
 use Prim.Native.Nat.{ℕ, _+_, _-_, _*_, _/_, _^_, _≤_, _<_}
 use native.Mathlib.Omega.{arith}
 use mathlib.Core.Path.{_≡_, refl, ap, sym, _∙_, subst}
@@ -14,6 +14,7 @@ use Rattle.sound.specs.Plans.{Plan}
 use Rattle.sound.specs.Calls.{Call, Take, Return, Resize, Give, Append, scriptOf, answerOf}
 use Rattle.sound.specs.Runs.{Reply, yes, not, said, left, granted-table}
 use Rattle.sound.specs.Runs.{regionsOf as regionsAsked}
+use Rattle.sound.specs.Determined.{determined}
 use Rattle.slices.specs.Decode.{wide-8}
 use Rattle.slices.specs.Slices.{Slices, memoryOf, memory-table, stores}
 use Rattle.slices.specs.Kept.{Lengths, stores-lengths}
@@ -22,14 +23,16 @@ use Rattle.calls.specs.Bytes.{ByteCall, allocate, deallocate, insert, ap
 use Rattle.calls.specs.Performs.{grainsOf, mostOf, Performs, early, refused, granted, Defines, Stand}
 use Rattle.calls.specs.Storable.{Sized, AllLong, outcome-stored}
 use Rattle.calls.specs.Begins.{Begun, begun-lengths, begun-count, begun-stands}
+use Rattle.calls.specs.Fills.{Fills, fills-as, fills-lengths, fills-stand}
 use Rattle.calls.specs.Refines.{Spare, asks-aligned, Refined, performs-refines}
 
 -- ---- what is run
 
--- calls one after the other, with their replies, on slices
+-- calls one after the other, with their replies, on slices; between them the caller may write into payloads that are live
 pub data Runs : Slices → List ByteCall → List Reply → Slices → Type 0 where
   stop : {S : Slices} → Runs S [] [] S
   step : {S T U : Slices} {k : ByteCall} {r : Reply} {ks : List ByteCall} {rs : List Reply} → Performs S k r T → Runs T ks rs U → Runs S (k ∷ ks) (r ∷ rs) U
+  write : {S T U : Slices} {h : Heap} {ks : List ByteCall} {rs : List Reply} → Stand S h → Fills h S T → Runs T ks rs U → Runs S ks rs U
 
 -- and in the definition
 pub data DefinesAll : Heap → List ByteCall → List Reply → Heap → Type 0 where
@@ -104,13 +107,19 @@ spare-each S (append x n) j h = omega arith
 -- from slices that stand for a heap
 pub runs-refine : (S : Slices) (ks : List ByteCall) (rs : List Reply) (T : Slices) (h : Heap) → Runs S ks rs T → Sized S → AllLong S → Stand S h
     → entry (S .regions) 0 + regionsIn ks ≤ mostOf S → RunRefined h ks rs T
-runs-refine S ks rs T h stop z l o room = record { heap = h; defined = DefinesAll.stop; stands = o }
-runs-refine S ks rs T h (step {T = U} {k = k} {r = r} {ks = js} {rs = qs} p q) z l o room =
+runs-refine S ks rs T h Runs.stop z l o room = record { heap = h; defined = DefinesAll.stop; stands = o }
+runs-refine S ks rs T h (Runs.step {T = U} {k = k} {r = r} {ks = js} {rs = qs} p q) z l o room =
     let a = performs-refines S z l h o k (spare-each S k (regionsIn js) room) r U p in
     let e = performs-lengths S k r U p in
     let b = runs-refine U js qs T (a .heap) q (keeps-sized e z) (keeps-long e l) (a .stands)
     (omega (arith, room, performs-count S k r U z l p, ap (λ (n : ℕ). (n - 1) / 2) (e .regions))) in
     record { heap = b .heap; defined = DefinesAll.step (a .defined) (b .defined); stands = b .stands }
+
+runs-refine S ks rs T h (write {T = U} {h = g} a f q) z l o room =
+    let b = fills-as h g S U (determined (grainsOf S) 12 (memoryOf 8 S) h g o a .0) f in
+    let e = fills-lengths h S U b in
+    runs-refine U ks rs T h q (keeps-sized e z) (keeps-long e l) (fills-stand h S U b o)
+    (omega (arith, room, ap (λ (t : List ℕ). entry t 0) (b .regions), ap (λ (n : ℕ). (n - 1) / 2) (e .regions)))
 
 -- from tables that were made empty
 pub runs-from-init : (S T U : Slices) → Sized S → AllLong S → Begun S T → (ks : List ByteCall) (rs : List Reply) → Runs T ks rs U → regionsIn ks ≤ mostOf T

@@ -53,6 +53,7 @@ pub mod TableWrites
 pub mod Runs
 -- payloads: no call writes into one that it is not about
 pub mod PayloadWrites
+pub mod Filled
 pub mod PayloadTake
 pub mod PayloadReturn
 pub mod ResizeSteps
