@@ -1,7 +1,7 @@
 -- The calls as a caller makes them, in bytes; and what each asks for in half grains and grains, or why its numbers are
 -- refused before the heap is looked at.
 use Prim.Native.Nat.{ℕ, _+_, _-_, _*_, _/_, _%_}
-use mathlib.Core.Path.{_≡_}
+use Rattle.choice.specs.Choice.{ifEq}
 use Rattle.definition.specs.Units.{halves, multiple, firstGrain, wholeGrains}
 use Rattle.sound.specs.Calls.{Call, Take, Return, Give, Append}
 use Rattle.sound.specs.Runs.{Reply, yes, not}
@@ -21,14 +21,16 @@ pub data Wrong : ByteCall → ℕ → Type 0 where
   unsuited : {x a : ℕ} → (Suits x a → ⊥) → Wrong (deallocate x a) 2
   unkind : {x a : ℕ} → Suits x a → (OfKind x → ⊥) → Wrong (deallocate x a) 3
 
--- what is asked for. A region is the whole grains among its bytes. One that is to follow another begins at a grain: else
--- there is nothing that it could follow, and nothing of it counts
+-- the grains of n bytes that follow a region which ended at the offset x: inside a grain none ends, and none follows
+abbrev pub following : ℕ → ℕ → ℕ
+following x n = ifEq (x % 32) 0 (n / 32) 0
+
+-- what is asked for. A region is the whole grains among its bytes
 pub data Asks : ByteCall → Call → Type 0 where
   take : {n a : ℕ} → InRange n a → Asks (allocate n a) (Take (halves 16 n) (multiple 16 a))
   back : {x a q : ℕ} → Stands x a q → Asks (deallocate x a) (Return q)
   give : {x n : ℕ} → Asks (insert x n) (Give (firstGrain 16 x) (wholeGrains 16 x n))
-  follow : {x n : ℕ} → x % 32 ≡ 0 → Asks (append x n) (Append (x / 32) (n / 32))
-  adrift : {x n : ℕ} → (x % 32 ≡ 0 → ⊥) → Asks (append x n) (Append (x / 32) 0)
+  follow : {x n : ℕ} → Asks (append x n) (Append (x / 32) (following x n))
 
 -- the answer's number in bytes: a payload's offset; nothing; the bytes used of a region, from its given start on
 abbrev pub bytes : ByteCall → ℕ → ℕ

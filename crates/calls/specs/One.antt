@@ -7,7 +7,7 @@ use mathlib.Core.List.{List, [], _∷_}
 use Rattle.definition.specs.Calls.{Heap}
 use Rattle.sound.specs.Calls.{Call, Return, answerOf}
 use Rattle.sound.specs.Runs.{Reply, yes, not, said, left}
-use Rattle.calls.specs.Bytes.{ByteCall, bytes, Wrong, range, unsuited, unkind, Asks, take, back, give, follow, adrift, inBytes}
+use Rattle.calls.specs.Bytes.{ByteCall, bytes, Wrong, range, unsuited, unkind, Asks, take, back, give, follow, inBytes}
 use Rattle.script.specs.Script.{Result, ok, no}
 use Rattle.sound.specs.Plans.{Plan}
 use Rattle.slices.specs.Slices.{Slices, stores}
@@ -19,10 +19,7 @@ pub asks-one : (k : ByteCall) (K L : Call) → Asks k K → Asks k L → K ≡ L
 asks-one k K L (take r) (take s) = refl
 asks-one k K L (back r) (back s) = ap Return (r .number ∙ sym (s .number))
 asks-one k K L give give = refl
-asks-one k K L (follow e) (follow f) = refl
-asks-one k K L (follow e) (adrift f) = absurd (f e)
-asks-one k K L (adrift e) (follow f) = absurd (e f)
-asks-one k K L (adrift e) (adrift f) = refl
+asks-one k K L follow follow = refl
 
 -- or is wrong
 pub asks-right : (k : ByteCall) (K : Call) (i : ℕ) → Asks k K → Wrong k i → ⊥

@@ -23,7 +23,7 @@ use Rattle.slices.specs.Slices.{Slices, memoryOf, memory-table, stores}
 use Rattle.slices.specs.Kept.{stores-lengths}
 use Rattle.slices.specs.Stored.{sound-stored}
 use Rattle.request.specs.Alignment.{multiple-align}
-use Rattle.calls.specs.Bytes.{ByteCall, allocate, deallocate, insert, append, Wrong, Asks, take, back, give, follow, adrift, bytes, inBytes}
+use Rattle.calls.specs.Bytes.{ByteCall, allocate, deallocate, insert, append, Wrong, Asks, take, back, give, follow, bytes, inBytes}
 use Rattle.calls.specs.Performs.{Long, Inside, grainsOf, mostOf, outcome, Early, short, wrong, outside, Performs, early, refused, granted, Defines, Stand}
 use Rattle.calls.specs.Storable.{Sized, AllLong, outcome-stored}
 
@@ -46,16 +46,14 @@ pub asks-aligned : (k : ByteCall) (K : Call) → Asks k K → Aligned K
 asks-aligned k K (take {a = a} r) = multiple-align a (r .alignment .power)
 asks-aligned k K (back s) = tt
 asks-aligned k K give = tt
-asks-aligned k K (follow e) = tt
-asks-aligned k K (adrift e) = tt
+asks-aligned k K follow = tt
 
 -- and fair where the table has room
 pub asks-fair : (S : Slices) (k : ByteCall) (K : Call) → Spare S k → Asks k K → Fair (memoryOf 8 S) (mostOf S) K
 asks-fair S k K f (take {a = a} r) = multiple-align a (r .alignment .power)
 asks-fair S k K f (back s) = tt
 asks-fair S k K f give = rw (memory-table 8 S 0) f
-asks-fair S k K f (follow e) = rw (memory-table 8 S 0) f
-asks-fair S k K f (adrift e) = rw (memory-table 8 S 0) f
+asks-fair S k K f follow = rw (memory-table 8 S 0) f
 
 -- stored words keep the number of grains
 pub stored-grains : (S : Slices) (w : List Write) → grainsOf (stores 8 S w) ≡ grainsOf S
@@ -84,8 +82,7 @@ refined-outside S h k K o (back {x = x} {a = a} {q = q} s) f =
       stands = o;
     }
 refined-outside S h k K o give f = absurd (f tt)
-refined-outside S h k K o (follow e) f = absurd (f tt)
-refined-outside S h k K o (adrift e) f = absurd (f tt)
+refined-outside S h k K o follow f = absurd (f tt)
 
 module _ (S : Slices) (z : Sized S) (l : AllLong S) (h : Heap) (o : Stand S h) (k : ByteCall) (spare : Spare S k) where
   module _ (K : Call) (a : Asks k K) where

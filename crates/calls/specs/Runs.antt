@@ -19,7 +19,7 @@ use Rattle.slices.specs.Decode.{wide-8}
 use Rattle.slices.specs.Slices.{Slices, memoryOf, memory-table, stores}
 use Rattle.slices.specs.Kept.{Lengths, stores-lengths}
 use Rattle.slices.specs.Stored.{stores-are}
-use Rattle.calls.specs.Bytes.{ByteCall, allocate, deallocate, insert, append, Wrong, Asks, take, back, give, follow, adrift, bytes, inBytes}
+use Rattle.calls.specs.Bytes.{ByteCall, allocate, deallocate, insert, append, Wrong, Asks, take, back, give, follow, bytes, inBytes}
 use Rattle.calls.specs.Performs.{grainsOf, mostOf, Performs, early, refused, granted, Defines, Stand}
 use Rattle.calls.specs.Storable.{Sized, AllLong, outcome-stored}
 use Rattle.calls.specs.Begins.{Begun, begun-lengths, begun-count, begun-stands}
@@ -70,8 +70,7 @@ asks-regions : (k : ByteCall) (K : Call) → Asks k K → regionsAsked K ≡ reg
 asks-regions k K (take r) = refl
 asks-regions k K (back s) = refl
 asks-regions k K give = refl
-asks-regions k K (follow e) = refl
-asks-regions k K (adrift e) = refl
+asks-regions k K follow = refl
 
 -- and the table counts at most these more
 performs-count : (S : Slices) (k : ByteCall) (r : Reply) (T : Slices) → Sized S → AllLong S → Performs S k r T

@@ -20,7 +20,7 @@ use Rattle.slices.specs.Slices.{Slices, memoryOf}
 use Rattle.slices.specs.Fields.{by-field}
 use Rattle.slices.specs.Kept.{Outside, AllOutside, stores-byte}
 use Rattle.request.specs.Returned.{OfKind}
-use Rattle.calls.specs.Bytes.{ByteCall, allocate, deallocate, insert, append, Asks, take, back, give, follow, adrift}
+use Rattle.calls.specs.Bytes.{ByteCall, allocate, deallocate, insert, append, Asks, take, back, give, follow}
 use Rattle.calls.specs.Performs.{grainsOf, mostOf, Performs, early, refused, granted, Stand}
 use Rattle.calls.specs.Refines.{Spare, asks-fair}
 
@@ -44,8 +44,7 @@ other-asked : (k : ByteCall) (K : Call) (v : ℕ) → Asks k K → Other k v →
 other-asked k K v (take r) o = tt
 other-asked k K v (back {x = x} s) o = λ e. o (omega (arith, e, s .number, kind-halves x (s .kind)))
 other-asked k K v give o = tt
-other-asked k K v (follow e) o = tt
-other-asked k K v (adrift e) o = tt
+other-asked k K v follow o = tt
 
 module _ (j y s d : ℕ) (i : InPayloadBytes j y s d) where
   -- a word that is not the payload's does not have the byte

@@ -4,7 +4,6 @@ use native.Mathlib.Omega.{arith}
 use mathlib.Core.Path.{_≡_, refl, ap, sym, _∙_, subst}
 use mathlib.Core.List.{List, []}
 use lib.ListN.{length}
-use Rattle.choice.specs.Choice.{ifEq, eq-case}
 use Rattle.table.specs.Table.{entry}
 use Rattle.bits.specs.Map.{mapWords}
 use Rattle.bits.specs.Map.{lists as listCount}
@@ -19,7 +18,7 @@ use Rattle.slices.specs.Decode.{grains}
 use Rattle.slices.specs.Slices.{Slices, memoryOf}
 use Rattle.free_list.specs.Lent.{lent}
 use Rattle.free_list.specs.Answers.{unless-no, unless-ok}
-use Rattle.calls.specs.Bytes.{ByteCall, insert, append, Asks, give, follow, adrift, bytes, inBytes}
+use Rattle.calls.specs.Bytes.{ByteCall, insert, append, following, Asks, give, follow, bytes, inBytes}
 use Rattle.calls.specs.Promises.{promised}
 use Rattle.firmheap.specs.Contracts.{Inserts, Appends}
 use Rattle.calls.specs.Performs.{Long, Inside, outcome, short, Goes, Performs, early, refused, granted}
@@ -31,15 +30,13 @@ use Rattle.give.specs.Given.{Given}
 -- the call k asks for len grains from g on; behind is 1 where they must follow another region
 pub data Regional : ByteCall → ℕ → ℕ → ℕ → Type 0 where
   inserts : {x n : ℕ} → Regional (insert x n) 0 (firstGrain 16 x) (wholeGrains 16 x n)
-  follows : {x n : ℕ} → x % 32 ≡ 0 → Regional (append x n) 1 (x / 32) (n / 32)
-  drifts : {x n : ℕ} → (x % 32 ≡ 0 → ⊥) → Regional (append x n) 1 (x / 32) 0
+  follows : {x n : ℕ} → Regional (append x n) 1 (x / 32) (following x n)
 
 -- its tables are the lists and the regions
 regional-long : (S : Slices) (k : ByteCall) (behind g len : ℕ) → Regional k behind g len
     → (Long S k → (mapWords + listCount ≤ length (S .lists)) × (1 ≤ length (S .regions))) × ((mapWords + listCount ≤ length (S .lists)) × (1 ≤ length (S .regions)) → Long S k)
 regional-long S k behind g len inserts = ((λ l. l), (λ l. l))
-regional-long S k behind g len (follows e) = ((λ l. l), (λ l. l))
-regional-long S k behind g len (drifts e) = ((λ l. l), (λ l. l))
+regional-long S k behind g len follows = ((λ l. l), (λ l. l))
 
 -- what it asks for, and its script
 pub record Asked (n most : ℕ) (k : ByteCall) (behind g len : ℕ) : Type 0 where
@@ -50,8 +47,7 @@ pub record Asked (n most : ℕ) (k : ByteCall) (behind g len : ℕ) : Type 0 whe
 
 regional-asked : (n most : ℕ) (k : ByteCall) (behind g len : ℕ) → Regional k behind g len → Asked n most k behind g len
 regional-asked n most k behind g len inserts = record { call = Give g len; asks = give; inside = tt; script = refl }
-regional-asked n most k behind g len (follows e) = record { call = Append g len; asks = follow e; inside = tt; script = refl }
-regional-asked n most k behind g len (drifts e) = record { call = Append g len; asks = adrift e; inside = tt; script = refl }
+regional-asked n most k behind g len follows = record { call = Append g len; asks = follow; inside = tt; script = refl }
 
 -- ---- in grains
 
@@ -105,13 +101,6 @@ module _ (a l t : List ℕ) (behind g len : ℕ) where
 
 -- ---- in bytes
 
--- what lies at an offset inside a grain follows no region
-abbrev pub following : ℕ → ℕ → ℕ
-following x n = ifEq (x % 32) 0 (n / 32) 0
-
-follows-as : (x n : ℕ) → Regional (append x n) 1 (x / 32) (following x n)
-follows-as x n = eq-case (Regional (append x n) 1 (x / 32)) (x % 32) 0 (n / 32) 0 (λ e. follows e) (λ e. drifts e)
-
 -- r is what was laid out: len grains from g on, which are those of the bytes that were given
 module _ (a l t : List ℕ) (x n : ℕ) (z : length a < 2 ^ 64) (g len : ℕ) (r : Reply) (b m u : List ℕ) where
   module _ (gIs : g ≡ firstGrain 16 x) (lenIs : len ≡ wholeGrains 16 x n) (k : Lays a l t 0 g len r b m u) where
@@ -131,7 +120,7 @@ module _ (a l t : List ℕ) (x n : ℕ) (z : length a < 2 ^ 64) (g len : ℕ) (r
 
   module _ (gIs : g ≡ x / 32) (lenIs : len ≡ following x n) (k : Lays a l t 1 g len r b m u) where
     append-laid : Appends a l t x n (inBytes (append x n) r) b m u
-    append-laid v = promised (lent a l v t) (append x n) (inBytes (append x n) r) (lent b m v u) z (rw (gIs, lenIs) at k .performs v (append x n) (follows-as x n))
+    append-laid v = promised (lent a l v t) (append x n) (inBytes (append x n) r) (lent b m v u) z (rw (gIs, lenIs) at k .performs v (append x n) follows)
 
     pub append-done : (s : ℕ) → r ≡ yes s → Appends a l t x n (yes (32 * s)) b m u
     append-done s f = rw (ap (inBytes (append x n)) (sym f)) append-laid

@@ -7,7 +7,8 @@ ghost use Rattle.tables.specs.Length.{LongEnough};
 ghost use Rattle.allocate.specs.Demand.{Demand};
 ghost use Rattle.firmheap.specs.Replies.{taken, done, given, laid};
 ghost use Rattle.firmheap.specs.Contracts.{Allocates, Deallocates, Takes, GivesBack, Initialises, Inserts, Appends};
-ghost use Rattle.firmheap.specs.Give.{Lays, following};
+ghost use Rattle.calls.specs.Bytes.{following};
+ghost use Rattle.firmheap.specs.Give.{Lays};
 
 // The bytes of half a grain, in which payloads are counted, and of a grain.
 const HALF: usize = 16;
