@@ -1,5 +1,5 @@
 -- T6 of the calls on slices that stand for a heap: none is refused with 5; a take is refused with 1 exactly by document 01's
--- condition; a payload is given back exactly where it is live, and else refused with 3. And what a take grants.
+-- condition; a payload is given back exactly where it is live, and else refused with 3.
 use Prim.Native.Nat.{ℕ, _+_, _-_, _*_, _/_, _%_, _^_, _≤_, _<_}
 use native.Mathlib.Omega.{arith}
 use mathlib.Core.Path.{_≡_, refl, ap, sym, _∙_, subst}
@@ -7,13 +7,13 @@ use mathlib.Core.List.{List, []}
 use mathlib.Core.Logic.{⊎-elim}
 use Rattle.choice.specs.Choice.{le?}
 use Rattle.class.specs.Class.{startOf}
-use Rattle.definition.specs.Blocks.{used}
+use Rattle.definition.specs.Blocks.{free, used}
 use Rattle.definition.specs.Units.{halves, multiple}
-use Rattle.definition.specs.Calls.{Heap, Answer, wanted}
+use Rattle.definition.specs.Calls.{Heap, wanted}
 use Rattle.invariants.specs.Order.{BlockAt}
-use Rattle.invariants.specs.Moves.{Ok}
 use Rattle.invariants.specs.NotLive.{NotLive}
-use Rattle.invariants.specs.Promises.{Granted, take-granted}
+use Rattle.invariants.specs.Placing.{align-pos}
+use Rattle.invariants.specs.Promises.{refused-exactly, good-fit}
 use Rattle.script.specs.Script.{Result, ok, no}
 use Rattle.sound.specs.Plans.{Plan}
 use Rattle.sound.specs.Calls.{Call, Take, Return, answerOf, never-5, take-refused-exactly, back-refused-exactly, live-never-refused}
@@ -22,7 +22,6 @@ use Rattle.slices.specs.Slices.{Slices, memoryOf}
 use Rattle.request.specs.Alignment.{multiple-align}
 use Rattle.request.specs.Asked.{InRange}
 use Rattle.request.specs.Returned.{Stands}
-use Rattle.request.specs.Handed.{half-divides}
 use Rattle.calls.specs.Bytes.{ByteCall, allocate, deallocate, Wrong, range, unsuited, unkind, Asks, take, back, inBytes}
 use Rattle.calls.specs.Performs.{Long, Inside, grainsOf, mostOf, outcome, Early, short, wrong, outside, Goes, Performs, early, refused, granted, Defines, Stand}
 use Rattle.calls.specs.Storable.{Sized, AllLong}
@@ -77,43 +76,13 @@ allocate-refused-exactly S n a r T h o l i p =
     let c = take-refused-exactly (grainsOf S) 12 (memoryOf 8 S) h o (halves 16 n) (multiple 16 a) (multiple-align a (i .alignment .power)) in
     ((λ e. c .0 (refused-in S (allocate n a) K g 1 r T p e)), (λ f. refused-by S (allocate n a) K g r T 1 p (c .1 f)))
 
--- what is granted of n bytes at a multiple of a in the heap h, at the offset x: a part of what was free, aligned, long
--- enough, inside its block; all blocks in use stay, and it is the only new one
-pub record Handed (h : Heap) (n a x : ℕ) (T : Slices) : Type 0 where
-  pub heap : Heap
-  pub stands : Stand T heap
-  pub payload : ℕ
-  pub granted : Granted 12 h (halves 16 n) (multiple 16 a) payload heap
-  pub offset : x ≡ 16 * payload
-  pub aligned : x % a ≡ 0
-  pub long : x + n ≤ 32 * (granted .x + granted .s)
-
-answer-handed : (h : Heap) (n a x : ℕ) (T : Slices) (w : Answer) → Ok 12 h → InRange n a → answerOf 12 (Take (halves 16 n) (multiple 16 a)) h ≡ w
-    → inBytes (allocate n a) (said w) ≡ yes x → Stand T (left h w) → Handed h n a x T
-answer-handed h n a x T (Answer.refused v) o i e f s = let z : _≡_ {A = ℕ} 0 1 = cc in absurd (omega arith)
-answer-handed h n a x T (Answer.granted v g) o i e f s =
-    let k = take-granted 12 h (halves 16 n) (multiple 16 a) v g o (multiple-align a (i .alignment .power)) e in
-    let z : 16 * v ≡ x = cc in
-    record {
-      heap = g;
-      stands = s;
-      payload = v;
-      granted = k;
-      offset = sym z;
-      aligned = rw (sym z) (half-divides a v (i .alignment .power) (k .aligned));
-      long = omega (arith, z, k .payload, k .long);
-    }
-
-defined-handed : (h : Heap) (n a x : ℕ) (r : Reply) (g : Heap) (T : Slices) → Ok 12 h → Defines h (allocate n a) r g → r ≡ yes x → Stand T g → Handed h n a x T
-defined-handed h n a x r g T o (Defines.wrong i w) e s = let z : _≡_ {A = ℕ} 0 1 = cc in absurd (omega arith)
-defined-handed h n a x r g T o (Defines.asked K (take i)) e s = answer-handed h n a x T (answerOf 12 (Take (halves 16 n) (multiple 16 a)) h) o i refl e s
-
--- whatever a take answers that is no refusal is so
-pub allocate-handed : (S : Slices) (n a : ℕ) (r : Reply) (T : Slices) (h : Heap) → Sized S → AllLong S → Stand S h → Performs S (allocate n a) r T
-    → (x : ℕ) → r ≡ yes x → Handed h n a x T
-allocate-handed S n a r T h z l o p x e =
-    let f = performs-refines S z l h o (allocate n a) tt r T p in
-    defined-handed h n a x r (f .heap) T (o .heap) (f .defined) e (f .stands)
+-- so never while a free block has 17/16 of the grains looked for
+pub allocate-fits : (S : Slices) (n a : ℕ) (r : Reply) (T : Slices) (h : Heap) → Stand S h → Long S (allocate n a) → InRange n a → Performs S (allocate n a) r T
+    → (y s : ℕ) → BlockAt y (free s) 0 (h .blocks) → 17 * wanted (halves 16 n) (multiple 16 a) ≤ 16 * s → r ≡ not 1 → ⊥
+allocate-fits S n a r T h o l i p y s b f e =
+    let u = multiple 16 a in
+    good-fit 12 h (halves 16 n) u y s (o .heap) (align-pos u (multiple-align a (i .alignment .power))) b f
+    (refused-exactly 12 h (halves 16 n) u .1 (allocate-refused-exactly S n a r T h o l i p .0 e))
 
 -- ---- return
 

@@ -8,6 +8,9 @@ pub mod Untouched
 pub mod Fills
 pub mod Runs
 pub mod One
+pub mod Numbers
 pub mod Conditions
+pub mod Handed
 pub mod Damage
 pub mod Promises
+pub mod Promised

@@ -19,7 +19,7 @@ use Rattle.slices.specs.Slices.{Slices, memoryOf}
 use Rattle.free_list.specs.Lent.{lent}
 use Rattle.free_list.specs.Answers.{unless-no, unless-ok}
 use Rattle.calls.specs.Bytes.{ByteCall, insert, append, following, Asks, give, follow, bytes, inBytes}
-use Rattle.calls.specs.Promises.{promised}
+use Rattle.calls.specs.Promised.{promised}
 use Rattle.firmheap.specs.Contracts.{Inserts, Appends}
 use Rattle.calls.specs.Performs.{Long, Inside, outcome, short, Goes, Performs, early, refused, granted}
 use Rattle.region.specs.Admit.{mostOf}

@@ -20,7 +20,7 @@ use Rattle.deallocate.specs.declared.Plan.{Plan as BackPlan}
 use Rattle.deallocate.specs.Shown.{BackPlanned, backWrites}
 use Rattle.calls.specs.Bytes.{deallocate, unsuited, unkind, back}
 use Rattle.calls.specs.Performs.{short, wrong, outside, Performs, early, refused, granted}
-use Rattle.calls.specs.Promises.{deallocated}
+use Rattle.calls.specs.Promised.{deallocated}
 use Rattle.firmheap.specs.Contracts.{GivesBack, Deallocates}
 
 -- ---- in half grains
