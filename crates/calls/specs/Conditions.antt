@@ -1,9 +1,9 @@
 -- T6 of the calls on slices that stand for a heap: none is refused with 5; a take is refused with 1 exactly by document 01's
 -- condition; a payload is given back exactly where it is live, and else refused with 3.
-use Prim.Native.Nat.{ℕ, _+_, _-_, _*_, _/_, _%_, _^_, _≤_, _<_}
+use Prim.Native.Nat.{ℕ, _+_, _-_, _*_, _≤_, _<_}
 use native.Mathlib.Omega.{arith}
-use mathlib.Core.Path.{_≡_, refl, ap, sym, _∙_, subst}
-use mathlib.Core.List.{List, []}
+use mathlib.Core.Path.{_≡_, ap, _∙_, subst}
+use mathlib.Core.List.{[]}
 use mathlib.Core.Logic.{⊎-elim}
 use Rattle.choice.specs.Choice.{le?}
 use Rattle.class.specs.Class.{startOf}
@@ -14,18 +14,16 @@ use Rattle.invariants.specs.Order.{BlockAt}
 use Rattle.invariants.specs.NotLive.{NotLive}
 use Rattle.invariants.specs.Placing.{align-pos}
 use Rattle.invariants.specs.Promises.{refused-exactly, good-fit}
-use Rattle.script.specs.Script.{Result, ok, no}
-use Rattle.sound.specs.Plans.{Plan}
-use Rattle.sound.specs.Calls.{Call, Take, Return, answerOf, never-5, take-refused-exactly, back-refused-exactly, live-never-refused}
-use Rattle.sound.specs.Runs.{Reply, yes, not, said, left}
+use Rattle.script.specs.Script.{no}
+use Rattle.sound.specs.Calls.{Call, Take, Return, never-5, take-refused-exactly, back-refused-exactly, live-never-refused}
+use Rattle.sound.specs.Runs.{Reply, not}
 use Rattle.slices.specs.Slices.{Slices, memoryOf}
 use Rattle.request.specs.Alignment.{multiple-align}
 use Rattle.request.specs.Asked.{InRange}
 use Rattle.request.specs.Returned.{Stands}
-use Rattle.calls.specs.Bytes.{ByteCall, allocate, deallocate, Wrong, range, unsuited, unkind, Asks, take, back, inBytes}
-use Rattle.calls.specs.Performs.{Long, Inside, grainsOf, mostOf, outcome, Early, short, wrong, outside, Goes, Performs, early, refused, granted, Defines, Stand}
-use Rattle.calls.specs.Storable.{Sized, AllLong}
-use Rattle.calls.specs.Refines.{Spare, asks-fair, behind-not-live, performs-refines}
+use Rattle.calls.specs.Bytes.{ByteCall, allocate, deallocate, range, unsuited, unkind, take, back}
+use Rattle.calls.specs.Performs.{Long, grainsOf, mostOf, outcome, Early, short, wrong, outside, Goes, Performs, early, refused, granted, Stand}
+use Rattle.calls.specs.Refines.{Spare, asks-fair, behind-not-live}
 use Rattle.calls.specs.One.{asks-one, goes-late, performs-one}
 
 -- ---- never 5

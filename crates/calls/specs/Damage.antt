@@ -1,19 +1,15 @@
 -- T10 of the calls on slices: slices Q that differ from S at most in the words of D, by whatever overwrote them. A call that
 -- on S reads no word of D replies on Q as on S, and leaves slices that again differ at most in D.
-use Prim.Native.Nat.{ℕ, _-_, _/_}
-use mathlib.Core.Path.{_≡_, refl, ap, sym, _∙_, subst}
-use mathlib.Core.List.{List}
-use Rattle.script.specs.Memory.{Memory, Write, apply}
-use Rattle.script.specs.Script.{Result, ok, no, run}
+use Prim.Native.Nat.{ℕ, _-_}
+use mathlib.Core.Path.{_≡_, sym, _∙_, subst}
 use Rattle.script.specs.Locality.{Reads, DiffersIn, Contained}
-use Rattle.sound.specs.Plans.{Plan}
-use Rattle.sound.specs.Calls.{Call, Take, Return, Resize, Give, Append, scriptOf, damage-stays}
-use Rattle.sound.specs.Runs.{Reply, yes, not}
+use Rattle.sound.specs.Calls.{Call, scriptOf, damage-stays}
+use Rattle.sound.specs.Runs.{Reply}
 use Rattle.slices.specs.Decode.{grains-keep, wide-8}
 use Rattle.slices.specs.Slices.{Slices, memoryOf, stores}
 use Rattle.slices.specs.Kept.{Lengths, all-valid-keep}
 use Rattle.slices.specs.Stored.{stores-memory}
-use Rattle.calls.specs.Bytes.{ByteCall, allocate, deallocate, insert, append, Wrong, Asks, bytes}
+use Rattle.calls.specs.Bytes.{ByteCall, allocate, deallocate, insert, append, Asks}
 use Rattle.calls.specs.Performs.{Long, Inside, grainsOf, mostOf, outcome, Early, short, wrong, outside, Goes, Performs, early, refused, granted}
 use Rattle.calls.specs.Storable.{Sized, AllLong, outcome-stored}
 use Rattle.calls.specs.Refines.{asks-aligned}

@@ -1,18 +1,18 @@
 -- What the caller does between two calls: it writes into live payloads, and nowhere else. The slices then stand for the same
 -- heap as before.
-use Prim.Native.Nat.{ℕ, _+_, _*_, _≤_, _<_}
+use Prim.Native.Nat.{ℕ, _+_, _*_, _<_}
 use native.Mathlib.Omega.{arith}
-use mathlib.Core.Path.{_≡_, refl, ap, sym, _∙_, subst}
+use mathlib.Core.Path.{_≡_, refl, ap, sym, subst}
 use mathlib.Core.List.{List}
 use lib.ListN.{length, getD}
 use Rattle.word.specs.Word.{wordAt}
 use Rattle.definition.specs.Blocks.{Block, used}
 use Rattle.definition.specs.Calls.{Heap}
 use Rattle.invariants.specs.Order.{BlockAt}
-use Rattle.script.specs.Memory.{Memory, Size, Before, Next, Prev, Mark, Live, Table}
+use Rattle.script.specs.Memory.{Size, Before, Next, Prev}
 use Rattle.sound.specs.Sound.{Sound}
 use Rattle.sound.specs.Filled.{NotPayload, Filled, filled-sound}
-use Rattle.slices.specs.Decode.{grains, grains-keep}
+use Rattle.slices.specs.Decode.{grains-keep}
 use Rattle.slices.specs.Arena.{sizeAt, linkAt}
 use Rattle.slices.specs.Heads.{nextAt}
 use Rattle.slices.specs.Slices.{Slices, memoryOf}

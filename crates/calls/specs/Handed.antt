@@ -2,10 +2,10 @@
 -- same alignment. On slices that stand for a heap it was free, and no other block in use changes.
 use Prim.Native.Nat.{ℕ, _+_, _*_, _/_, _%_, _≤_}
 use native.Mathlib.Omega.{arith}
-use mathlib.Core.Path.{_≡_, refl, ap, sym, _∙_, subst}
+use mathlib.Core.Path.{_≡_, refl, ap, sym, subst}
 use lib.ListN.{length}
 use Rattle.definition.specs.Units.{halves, multiple}
-use Rattle.definition.specs.Calls.{Heap, Answer, place, keeps}
+use Rattle.definition.specs.Calls.{Heap, Answer, place}
 use Rattle.invariants.specs.Placing.{align-pos, place-some, keeps-holds, keeps-wanted}
 use Rattle.invariants.specs.Moves.{Ok}
 use Rattle.invariants.specs.Promises.{Granted, take-granted}

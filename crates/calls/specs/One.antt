@@ -1,9 +1,9 @@
 -- Only one reply is the definition's, with one heap, and what a call does to slices is one thing, too: so to say that a reply
 -- is the definition's, or that a call does this, says which it is.
-use Prim.Native.Nat.{ℕ, _/_}
+use Prim.Native.Nat.{ℕ}
 use native.Mathlib.Omega.{arith}
 use mathlib.Core.Path.{_≡_, refl, ap, sym, _∙_, subst}
-use mathlib.Core.List.{List, [], _∷_}
+use mathlib.Core.List.{List}
 use Rattle.definition.specs.Calls.{Heap}
 use Rattle.sound.specs.Calls.{Call, Return, answerOf}
 use Rattle.sound.specs.Runs.{Reply, yes, not, said, left}

@@ -1,13 +1,11 @@
 -- What a call does to lent slices, whatever is in them (`Performs`), and what the definition says that it does to a heap
 -- (`Defines`). Both in the order in which refusals are tested: tables that are too short, numbers, offset, records.
 use Prim.Native.Nat.{ℕ, _+_, _-_, _*_, _/_, _≤_, _<_}
-use native.Mathlib.Omega.{arith}
 use mathlib.Core.Path.{_≡_}
 use lib.ListN.{length}
 use Rattle.bits.specs.Map.{mapWords}
 use Rattle.bits.specs.Map.{lists as listCount}
 use Rattle.definition.specs.Calls.{Heap}
-use Rattle.script.specs.Memory.{Memory}
 use Rattle.script.specs.Script.{ok, no, run, Result}
 use Rattle.sound.specs.Plans.{Plan}
 use Rattle.sound.specs.Sound.{Sound}

@@ -5,13 +5,12 @@ use mathlib.Core.Path.{_≡_, refl}
 use mathlib.Core.List.{[]}
 use lib.ListN.{length}
 use Rattle.definition.specs.Units.{halves, multiple}
-use Rattle.script.specs.Script.{Script, ok, Ends, ends-gives}
-use Rattle.sound.specs.Plans.{Plan, takeScript, giveBackScript}
+use Rattle.script.specs.Script.{Ends, ends-gives}
+use Rattle.sound.specs.Plans.{Plan}
 use Rattle.sound.specs.Calls.{Call, scriptOf}
 use Rattle.sound.specs.Constant.{take-reads, take-writes, back-reads, back-writes}
-use Rattle.sound.specs.Runs.{Reply, yes, not}
+use Rattle.sound.specs.Runs.{Reply, not}
 use Rattle.slices.specs.Slices.{Slices, memoryOf}
-use Rattle.slices.specs.Kept.{Lengths}
 use Rattle.calls.specs.Bytes.{ByteCall, allocate, deallocate, Asks, take, back}
 use Rattle.calls.specs.Performs.{grainsOf, mostOf, Performs, early, refused, granted}
 use Rattle.calls.specs.Storable.{Sized}

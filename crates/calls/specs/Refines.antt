@@ -1,29 +1,27 @@
 -- T4 to T6 of the calls on slices: what a call does to slices that stand for a heap is what the definition says, and the
 -- slices afterwards stand for the definition's heap.
-use Prim.Native.Nat.{ℕ, _+_, _-_, _*_, _/_, _^_, _≤_, _<_}
+use Prim.Native.Nat.{ℕ, _-_, _*_, _<_}
 use native.Mathlib.Omega.{arith}
-use mathlib.Core.Path.{_≡_, refl, ap, sym, _∙_, subst}
-use mathlib.Core.List.{List, [], _∷_}
-use mathlib.Core.Logic.{inl, inr}
-use lib.ListN.{length}
+use mathlib.Core.Path.{_≡_, ap, sym, _∙_, subst}
+use mathlib.Core.List.{List}
 use Rattle.table.specs.Table.{entry}
-use Rattle.definition.specs.Blocks.{used, last, total}
+use Rattle.definition.specs.Blocks.{used, last}
 use Rattle.definition.specs.Calls.{Heap, Answer}
-use Rattle.invariants.specs.Order.{BlockAt, at-end, at-whole, out}
+use Rattle.invariants.specs.Order.{at-end, at-whole, out}
 use Rattle.invariants.specs.InPiece.{in-piece}
 use Rattle.invariants.specs.NotLive.{NotLive, not-live-back}
-use Rattle.script.specs.Memory.{Memory, Table, Write, apply}
+use Rattle.script.specs.Memory.{Memory, Write}
 use Rattle.script.specs.Script.{Result, ok, no}
 use Rattle.sound.specs.Plans.{Plan}
 use Rattle.sound.specs.Sound.{Sound}
-use Rattle.sound.specs.Calls.{Call, Take, Return, Resize, Give, Append, scriptOf, answerOf, Fair, call-meets}
+use Rattle.sound.specs.Calls.{Call, Return, scriptOf, answerOf, Fair, call-meets}
 use Rattle.sound.specs.Runs.{Reply, yes, not, said, left, reply, written, one, Aligned}
-use Rattle.slices.specs.Decode.{grains, grains-keep, wide-8}
+use Rattle.slices.specs.Decode.{grains-keep, wide-8}
 use Rattle.slices.specs.Slices.{Slices, memoryOf, memory-table, stores}
 use Rattle.slices.specs.Kept.{stores-lengths}
 use Rattle.slices.specs.Stored.{sound-stored}
 use Rattle.request.specs.Alignment.{multiple-align}
-use Rattle.calls.specs.Bytes.{ByteCall, allocate, deallocate, insert, append, Wrong, Asks, take, back, give, follow, bytes, inBytes}
+use Rattle.calls.specs.Bytes.{ByteCall, allocate, deallocate, insert, append, Asks, take, back, give, follow, bytes, inBytes}
 use Rattle.calls.specs.Performs.{Long, Inside, grainsOf, mostOf, outcome, Early, short, wrong, outside, Performs, early, refused, granted, Defines, Stand}
 use Rattle.calls.specs.Storable.{Sized, AllLong, outcome-stored}
 

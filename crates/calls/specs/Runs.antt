@@ -1,30 +1,27 @@
 -- T5: any number of calls, one after the other, on slices, and between them what the caller writes into live payloads. From
 -- tables that `init` made the replies are the definition's, one by one, and the slices at the end stand for the definition's
 -- heap: for every list of calls, whatever their numbers, with as many regions among them as the table has room for.
-use Prim.Native.Nat.{ℕ, _+_, _-_, _*_, _/_, _^_, _≤_, _<_}
+use Prim.Native.Nat.{ℕ, _+_, _-_, _/_, _≤_}
 use native.Mathlib.Omega.{arith}
-use mathlib.Core.Path.{_≡_, refl, ap, sym, _∙_, subst}
+use mathlib.Core.Path.{_≡_, refl, ap}
 use mathlib.Core.List.{List, [], _∷_}
-use lib.ListN.{length}
 use Rattle.table.specs.Table.{entry}
 use Rattle.definition.specs.Calls.{Heap, empty}
-use Rattle.script.specs.Memory.{Memory, Table, Write, apply}
-use Rattle.script.specs.Script.{ok}
-use Rattle.sound.specs.Plans.{Plan}
-use Rattle.sound.specs.Calls.{Call, Take, Return, Resize, Give, Append, scriptOf, answerOf}
-use Rattle.sound.specs.Runs.{Reply, yes, not, said, left, granted-table}
+use Rattle.script.specs.Memory.{Table}
+use Rattle.sound.specs.Calls.{Call}
+use Rattle.sound.specs.Runs.{Reply, granted-table}
 use Rattle.sound.specs.Runs.{regionsOf as regionsAsked}
 use Rattle.sound.specs.Determined.{determined}
 use Rattle.slices.specs.Decode.{wide-8}
 use Rattle.slices.specs.Slices.{Slices, memoryOf, memory-table, stores}
 use Rattle.slices.specs.Kept.{Lengths, stores-lengths}
 use Rattle.slices.specs.Stored.{stores-are}
-use Rattle.calls.specs.Bytes.{ByteCall, allocate, deallocate, insert, append, Wrong, Asks, take, back, give, follow, bytes, inBytes}
+use Rattle.calls.specs.Bytes.{ByteCall, allocate, deallocate, insert, append, Asks, take, back, give, follow}
 use Rattle.calls.specs.Performs.{grainsOf, mostOf, Performs, early, refused, granted, Defines, Stand}
 use Rattle.calls.specs.Storable.{Sized, AllLong, outcome-stored}
 use Rattle.calls.specs.Begins.{Begun, begun-lengths, begun-count, begun-stands}
 use Rattle.calls.specs.Fills.{Fills, fills-as, fills-lengths, fills-stand}
-use Rattle.calls.specs.Refines.{Spare, asks-aligned, Refined, performs-refines}
+use Rattle.calls.specs.Refines.{Spare, asks-aligned, performs-refines}
 
 -- ---- what is run
 
@@ -113,7 +110,6 @@ runs-refine S ks rs T h (Runs.step {T = U} {k = k} {r = r} {ks = js} {rs = qs} p
     let b = runs-refine U js qs T (a .heap) q (keeps-sized e z) (keeps-long e l) (a .stands)
     (omega (arith, room, performs-count S k r U z l p, ap (λ (n : ℕ). (n - 1) / 2) (e .regions))) in
     record { heap = b .heap; defined = DefinesAll.step (a .defined) (b .defined); stands = b .stands }
-
 runs-refine S ks rs T h (write {T = U} {h = g} a f q) z l o room =
     let b = fills-as h g S U (determined (grainsOf S) 12 (memoryOf 8 S) h g o a .0) f in
     let e = fills-lengths h S U b in

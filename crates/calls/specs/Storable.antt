@@ -1,23 +1,22 @@
 -- On slices whose tables are long enough, damaged or not, every write of a plan that was not refused can be stored: so what
 -- is stored is the memory with the plan's writes, and nothing else.
-use Prim.Native.Nat.{ℕ, suc, _+_, _-_, _*_, _/_, _^_, _≤_, _<_}
+use Prim.Native.Nat.{ℕ, _-_, _^_, _≤_, _<_}
 use native.Mathlib.Omega.{arith}
-use mathlib.Core.Path.{_≡_, refl, ap, sym, subst}
-use mathlib.Core.List.{List, [], _∷_, _++_}
+use mathlib.Core.Path.{_≡_, sym, subst}
+use mathlib.Core.List.{List}
 use lib.ListN.{length}
-use Rattle.script.specs.Memory.{Memory, Table, Write, _at_≔_}
+use Rattle.script.specs.Memory.{Table, Write}
 use Rattle.script.specs.Script.{ok}
 use Rattle.sound.specs.Plans.{Plan}
 use Rattle.sound.specs.Writable.{AllWritable}
 use Rattle.sound.specs.WritableCalls.{take-writable, back-writable}
 use Rattle.sound.specs.WritableResize.{resize-writable}
 use Rattle.sound.specs.WritableRegion.{region-writable}
-use Rattle.sound.specs.RegionPlan.{regionScript}
 use Rattle.sound.specs.RegionChecked.{RegionChecked, region-checked}
-use Rattle.slices.specs.Decode.{grains, grains-le, wide-8}
-use Rattle.slices.specs.Slices.{Slices, memoryOf, memory-table, AllValid}
+use Rattle.slices.specs.Decode.{grains-le}
+use Rattle.slices.specs.Slices.{Slices, memoryOf, AllValid}
 use Rattle.slices.specs.Kept.{all-valid-append}
-use Rattle.slices.specs.Ample.{Ample, decoded-slices, all-valid}
+use Rattle.slices.specs.Ample.{decoded-slices, all-valid}
 use Rattle.tables.specs.Length.{LongEnough, long-ample}
 use Rattle.sound.specs.Calls.{Call, Take, Return, Resize, Give, Append}
 use Rattle.sound.specs.Runs.{Aligned}

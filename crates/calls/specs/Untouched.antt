@@ -1,8 +1,8 @@
 -- T7 in bytes: on slices that stand for a heap no byte of a live payload changes, by any call, but of the payload that is
 -- given back.
-use Prim.Native.Nat.{ℕ, _+_, _*_, _/_, _%_, _≤_, _<_}
+use Prim.Native.Nat.{ℕ, _+_, _*_, _/_, _≤_, _<_}
 use native.Mathlib.Omega.{arith}
-use mathlib.Core.Path.{_≡_, refl, sym}
+use mathlib.Core.Path.{_≡_, refl}
 use mathlib.Core.List.{List, [], _∷_}
 use mathlib.Core.Logic.{_⊎_, inl, inr, ⊎-elim}
 use lib.ListN.{getD}
@@ -12,8 +12,7 @@ use Rattle.definition.specs.Blocks.{used}
 use Rattle.definition.specs.Calls.{Heap}
 use Rattle.invariants.specs.Order.{BlockAt}
 use Rattle.script.specs.Memory.{Write}
-use Rattle.sound.specs.Plans.{Plan}
-use Rattle.sound.specs.Calls.{Call, Take, Return}
+use Rattle.sound.specs.Calls.{Call}
 use Rattle.sound.specs.Runs.{Reply}
 use Rattle.sound.specs.Payloads.{InPayload, Spares, NotOf, call-spares}
 use Rattle.slices.specs.Slices.{Slices, memoryOf}

@@ -5,7 +5,7 @@ use Rattle.sound.specs.Calls.{Take, Return}
 use Rattle.sound.specs.Runs.{Reply}
 use Rattle.free_list.specs.Lent.{lent}
 use Rattle.calls.specs.Bytes.{allocate, deallocate, insert, append, Asks}
-use Rattle.calls.specs.Performs.{Long, Goes, Performs}
+use Rattle.calls.specs.Performs.{Goes, Performs}
 use Rattle.calls.specs.Promises.{Promise, Allocated, Deallocated, Initialised}
 
 -- ---- the arena a, the lists l and the live bits v become b, m and o

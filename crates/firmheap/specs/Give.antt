@@ -1,5 +1,5 @@
 -- Giving a region: which calls ask for it, and that plan and apply make them.
-use Prim.Native.Nat.{ℕ, _+_, _-_, _*_, _/_, _%_, _^_, _≤_, _<_}
+use Prim.Native.Nat.{ℕ, _+_, _-_, _*_, _/_, _^_, _≤_, _<_}
 use native.Mathlib.Omega.{arith}
 use mathlib.Core.Path.{_≡_, refl, ap, sym, _∙_, subst}
 use mathlib.Core.List.{List, []}
@@ -8,7 +8,7 @@ use Rattle.table.specs.Table.{entry}
 use Rattle.bits.specs.Map.{mapWords}
 use Rattle.bits.specs.Map.{lists as listCount}
 use Rattle.definition.specs.Units.{firstGrain, wholeGrains}
-use Rattle.script.specs.Script.{ok, no, run}
+use Rattle.script.specs.Script.{run}
 use Rattle.sound.specs.Plans.{Plan}
 use Rattle.sound.specs.RegionPlan.{regionScript}
 use Rattle.sound.specs.RegionChecked.{region-checked}

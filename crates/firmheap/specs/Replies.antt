@@ -1,5 +1,4 @@
 -- The answers of the calls, read as replies: a number, or a refusal's number.
-use Prim.Native.Nat.{ℕ}
 use Rattle.sound.specs.Runs.{Reply, yes, not}
 use Rattle.firmheap.specs.declared.Taken.{Taken}
 use Rattle.firmheap.specs.declared.Done.{Done}

@@ -1,10 +1,10 @@
 -- What stands in live payloads is the caller's: a memory that differs from a sound one in words of live payloads alone stands
 -- for the same heap. So a caller may write there between two calls.
-use Prim.Native.Nat.{ℕ, _+_, _-_, _*_, _/_, _%_, _≤_, _<_}
+use Prim.Native.Nat.{ℕ, _+_, _-_, _*_, _/_, _≤_, _<_}
 use native.Mathlib.Omega.{arith}
 use mathlib.Core.Path.{_≡_, refl, ap, sym, _∙_, subst, fun-ext}
 use mathlib.Core.List.{List, [], _∷_}
-use mathlib.Core.Logic.{_⊎_, inl, inr}
+use mathlib.Core.Logic.{inl, inr}
 use Rattle.definition.specs.Blocks.{Block, free, used, last, gap, size}
 use Rattle.definition.specs.Calls.{Heap}
 use Rattle.invariants.specs.Order.{BlockAt, Ordered, out, some, at-whole, at-end, Apart, same, before, behind, apart}
