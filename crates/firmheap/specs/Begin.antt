@@ -18,11 +18,11 @@ module _ (a l v t : List ℕ) (z : length a < 2 ^ 64) where
   init-short e = initialised (lent a l v t) (not 6) (lent a l v t) z (short (λ i. e (i .tables)))
 
   -- the table of the regions has no entry
-  pub init-none : length t ≡ 0 → Initialises a l v t (not 6) l v t
+  pub init-none : length t < 1 → Initialises a l v t (not 6) l v t
   init-none e = initialised (lent a l v t) (not 6) (lent a l v t) z (short (λ i. omega (arith, i .some)))
 
   -- done
-  pub init-done : (m o u : List ℕ) → LongEnough (length a) (length l) (length v) → (length t ≡ 0 → ⊥) → length t < 2 ^ 64 → Initial l v t m o u
+  pub init-done : (m o u : List ℕ) → LongEnough (length a) (length l) (length v) → (length t < 1 → ⊥) → length t < 2 ^ 64 → Initial l v t m o u
       → Initialises a l v t (yes 0) m o u
   init-done m o u e n f i = initialised (lent a l v t) (yes 0) (lent a m o u) z
       (begun (lent a m o u) (record { tables = e; some = omega (arith, n); most = f }) (record { arena = refl; tables = i }))

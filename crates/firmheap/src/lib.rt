@@ -231,7 +231,7 @@ pub fn init(arena: &[u8], lists: &mut [u64], live: &mut [u64], regions: &mut [u6
     if !tables::long_enough(arena.len(), lists.len(), live.len()) {
         return Done::Refused(TOO_SHORT);
     }
-    if regions.len() == 0 {
+    if regions.len() < 1 {
         return Done::Refused(TOO_SHORT);
     }
     tables::init(lists, live, regions);
