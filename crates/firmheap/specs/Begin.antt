@@ -1,5 +1,5 @@
 -- The empty heap: refused where a table is too short, or the tables are made empty.
-use Prim.Native.Nat.{ℕ, _^_, _<_}
+use Prim.Native.Nat.{ℕ, _^_, _≤_, _<_}
 use native.Mathlib.Omega.{arith}
 use mathlib.Core.Path.{_≡_, refl}
 use mathlib.Core.List.{List}
@@ -22,7 +22,7 @@ module _ (a l v t : List ℕ) (z : length a < 2 ^ 64) where
   init-none e = initialised (lent a l v t) (not 6) (lent a l v t) z (short (λ i. omega (arith, i .some)))
 
   -- done
-  pub init-done : (m o u : List ℕ) → LongEnough (length a) (length l) (length v) → (length t < 1 → ⊥) → length t < 2 ^ 64 → Initial l v t m o u
+  pub init-done : (m o u : List ℕ) → LongEnough (length a) (length l) (length v) → 1 ≤ length t → length t < 2 ^ 64 → Initial l v t m o u
       → Initialises a l v t (yes 0) m o u
   init-done m o u e n f i = initialised (lent a l v t) (yes 0) (lent a m o u) z
-      (begun (lent a m o u) (record { tables = e; some = omega (arith, n); most = f }) (record { arena = refl; tables = i }))
+      (begun (lent a m o u) (record { tables = e; some = n; most = f }) (record { arena = refl; tables = i }))
