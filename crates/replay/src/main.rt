@@ -11,6 +11,22 @@ ghost use Prim.Native.Nat.{_≤_, _<_};
 // A loop that is proved has to end, and nothing says that the input does. So this many lines are read at most.
 const MOST: u64 = 1000000000;
 
+// The arena's bytes, and the words of the tables that go with it: tables::lists_length(), tables::live_length(ARENA), and a
+// count with two words for each of 32 regions. Where one is too short, init refuses.
+const ARENA: usize = 1048576;
+
+const LISTS: usize = 195;
+
+const LIVE: usize = 1025;
+
+const REGIONS: usize = 65;
+
+// The bytes that are read at once, and room for a line: six numbers of at most 20 digits and five spaces are 125, and its end
+// is one more.
+const CHUNK: usize = 65536;
+
+const LINE: usize = 128;
+
 // What became of a line: the call agreed, or it did not; or there was none to make.
 enum Outcome {
     Agreed,
@@ -26,26 +42,28 @@ struct Turn {
 }
 
 fn main() {
-    let mut arena = [0u8; 1048576];
+    let mut arena = [0u8; ARENA];
     start(&mut arena);
 }
 
 // The heap's tables are made, and the buffers.
-fn start(arena: &mut [u8; 1048576]) {
-    let mut lists = [0u64; 195];
-    let mut live = [0u64; 1025];
-    let mut regions = [0u64; 65];
-    let mut chunk = [0u8; 65536];
-    let mut text = [0u8; 128];
-    firmheap::init(arena, &mut lists, &mut live, &mut regions);
-    replay(
-        arena,
-        &mut lists,
-        &mut live,
-        &mut regions,
-        &mut chunk,
-        &mut text,
-    );
+fn start(arena: &mut [u8; ARENA]) {
+    let mut lists = [0u64; LISTS];
+    let mut live = [0u64; LIVE];
+    let mut regions = [0u64; REGIONS];
+    let mut chunk = [0u8; CHUNK];
+    let mut text = [0u8; LINE];
+    match firmheap::init(arena, &mut lists, &mut live, &mut regions) {
+        firmheap::Done::Yes => replay(
+            arena,
+            &mut lists,
+            &mut live,
+            &mut regions,
+            &mut chunk,
+            &mut text,
+        ),
+        firmheap::Done::Refused(why) => report::not_begun(why),
+    }
 }
 
 // All lines, up to the first that says no call.

@@ -33,7 +33,9 @@ pub fn too_long(line: u64) {
 pub fn unreadable(line: u64) {
     say(b"line ");
     say_number(line);
-    say(b": the input can't be read\n");
+    say(
+        b": the input can't be read; give the recorded calls as standard input, as in: replay <FILE\n",
+    );
 }
 
 // The call on which the heap and the record differ.
@@ -52,6 +54,16 @@ pub fn different(line: u64, text: &[u8], c: parse::Call, a: heap::Answer) {
         say_number(a.refusal);
     }
     say(b"\n");
+    if is_region_refused(c, a) {
+        say(b"    the arena has 1048576 bytes, with room for 32 regions\n");
+    }
+}
+
+fn is_region_refused(c: parse::Call, a: heap::Answer) -> bool {
+    if a.refusal == 0 {
+        return false;
+    }
+    c.kind == parse::REGION
 }
 
 // ---- of all
@@ -81,7 +93,17 @@ pub fn stopped(made: u64, agreed: u64) {
 pub fn endless(made: u64) {
     say(b"FAILED: the input has more lines than ");
     say_number(made);
-    say(b"\n");
+    say(b"; cut it into shorter files, each from an empty heap on\n");
+}
+
+// There is no empty heap to begin with.
+pub fn not_begun(why: u64) {
+    say(b"init refused with ");
+    say_number(why);
+    say(
+        b": a table is too short for the arena; make LISTS, LIVE and REGIONS of src/main.rt as long as crate tables says\n",
+    );
+    say(b"FAILED: no call was made\n");
 }
 
 // ---- words
