@@ -10,8 +10,8 @@ use Rattle.definition.specs.Calls.{place, keeps}
 use Rattle.script.specs.Memory.{Memory, Live, Write, _at_≔_}
 use Rattle.script.specs.Script.{Result, ok, no, run}
 use Rattle.sound.specs.Plans.{Plan, padWrites, leaveScript, elsewhereScript, downScript, moveScript}
-use Rattle.slices.specs.Decode.{grains}
-use Rattle.free_list.specs.Lent.{held, classes, link, Leads, link-keep}
+use Rattle.slices.specs.Decode.{grains, grains-keep}
+use Rattle.free_list.specs.Lent.{held, classes, link, Leads, link-keep, leads-keep}
 use Rattle.free_list.specs.Answers.{answer}
 use Rattle.neighbours.specs.declared.Neighbour.{Neighbour}
 use Rattle.neighbours.specs.Leaving.{Known, bothLeaving}
@@ -69,6 +69,16 @@ pub record Makeable (a : List ℕ) (r : PlanAnswer) : Type 0 where
   pub rest : (r .keep ≡ r .grains → ⊥) → (r .list < lists) × Leads a (r .head)
   pub some : 0 < r .place
   pub pad : r .at + r .place / 2 < grains 8 a
+
+-- only the arena's length counts for that, too
+pub makeable-keep : (a b : List ℕ) (r : PlanAnswer) → length b ≡ length a → Makeable a r → Makeable b r
+makeable-keep a b r e h = record {
+  inside = rw (grains-keep 8 a b e) (h .inside);
+  kept = h .kept;
+  rest = λ n. (h .rest n .0, leads-keep a b (r .head) e (h .rest n .1));
+  some = h .some;
+  pad = rw (grains-keep 8 a b e) (h .pad);
+}
 
 -- and both, with what the block keeps for p half grains
 pub record Able (a : List ℕ) (p : ℕ) (r : PlanAnswer) : Type 0 where
