@@ -1,5 +1,5 @@
 -- The steps of the script of a return, as the code takes them: at each return one law says what the script answers.
-use Prim.Native.Nat.{ℕ, zero, suc, _+_, _-_, _*_, _≤_, _<_}
+use Prim.Native.Nat.{ℕ, zero, suc, _+_, _-_, _≤_, _<_}
 use native.Mathlib.Omega.{arith}
 use mathlib.Core.Path.{_≡_, refl, ap, sym, _∙_}
 use mathlib.Core.Bool.{Bool, true, false}
@@ -21,8 +21,7 @@ use Rattle.neighbours.specs.Shown.{shownOwner, shownBeside}
 use Rattle.neighbours.specs.declared.Owner.{Owner as OwnerAnswer}
 use Rattle.neighbours.specs.declared.Beside.{Beside as BesideAnswer}
 use Rattle.neighbours.specs.declared.Neighbour.{Neighbour}
-use Rattle.neighbours.specs.After.{relinked, headed, leaving, latest-append, head-after}
-use Rattle.neighbours.specs.Leaving.{Known, leavingOf, bothLeaving, listed, seenOf, room-is, both-leave}
+use Rattle.neighbours.specs.Leaving.{bothLeaving, listed, firstOf, secondOf, seenOf, room-is, both-leave}
 use Rattle.deallocate.specs.Shown.{mergeScript}
 
 -- ---- the list of the joined block, of g grains at z
@@ -53,15 +52,6 @@ module _ (a l v t : List ℕ) (q z g k : ℕ) (w : List Write) (e : k ≡ listOf
         join-listed ∙ goes (held a l v t) (seeHead (grains 8 a) k) _ (sym f ∙ ap (λ (b : Bool). answer b (link a (r .word))) o)
         ∙ gives-done (held a l v t) _ ∙ ap (λ (y : ℕ). ok (record { answer = 0; moved = 0; writes = (w ++ pushWrites k z y) ++ freeWrites q z g })) (sym d))
 
--- its head, when both neighbours left
-pub head-joined : (a : List ℕ) (e f : Neighbour) (k h u x : ℕ) → length a < 18446744073709551616 → Known a e → Known a f
-    → u ≡ headed (e .grains) (e .list) (e .next) (e .prev) k h → x ≡ headed (f .grains) (f .list) (f .next) (f .prev) k u
-    → link a x ≡ latest (bothLeaving a e f) Next (root k) (link a h)
-head-joined a e f k h u x s i j p q =
-    ap (link a) q ∙ head-after a (f .list) (f .next) (f .prev) s (f .grains) k u (λ n. j n .prev)
-    ∙ ap (latest (leavingOf a f) Next (root k)) (ap (link a) p ∙ head-after a (e .list) (e .next) (e .prev) s (e .grains) k h (λ n. i n .prev))
-    ∙ sym (latest-append (leavingOf a e) (leavingOf a f) Next (root k) (link a h))
-
 -- ---- the neighbours
 
 module _ (a l v t : List ℕ) (q x s : ℕ) (e : BesideAnswer) (p : shownBeside a e ≡ run (held a l v t) (seeBehind (grains 8 a) classes (x + s))) where
@@ -78,16 +68,17 @@ module _ (a l v t : List ℕ) (q x s : ℕ) (e : BesideAnswer) (p : shownBeside 
     pub merge-before-out : f .ok ≡ false → no 5 ≡ run (held a l v t) (mergeScript (grains 8 a) q x s)
     merge-before-out c = sym (merge-behind ∙ halts (held a l v t) (seeBefore (grains 8 a) classes x) _ (sym d ∙ ap (λ (b : Bool). answer b (seenOf a f)) c))
 
-    -- both do
-    pub merged : f .ok ≡ true → length a < 18446744073709551616 → x - f .grains < grains 8 a → (i j y u : ℕ) → i ≡ listed (e .grains) → j ≡ listed (f .grains)
-        → y ≡ relinked (e .grains) (e .prev) (32 * (x - f .grains)) (e .next) (f .next) → u ≡ relinked (e .grains) (e .next) (32 * (x - f .grains)) (e .prev) (f .prev)
-        → run (held a l v t) (joinScript (grains 8 a) classes q (x - f .grains) (f .grains + (s + e .grains)) (leaving a (e .grains) i (e .next) (e .prev) ++ leaving a (f .grains) j y u))
+    -- both do: the one behind is in list k
+    pub merged : f .ok ≡ true → length a < 18446744073709551616 → x - f .grains < grains 8 a → (k : ℕ) → k ≡ listed (e .grains)
+        → (b : Neighbour) → b ≡ secondOf (firstOf e k) (x - f .grains) f
+        → run (held a l v t) (joinScript (grains 8 a) classes q (x - f .grains) (f .grains + (s + e .grains)) (bothLeaving a (firstOf e k) b))
         ≡ run (held a l v t) (mergeScript (grains 8 a) q x s)
-    merged c few h i j y u g k n b = sym (
+    merged c few h k g b i = sym (
         merge-behind ∙ goes (held a l v t) (seeBefore (grains 8 a) classes x) _ (sym d ∙ ap (λ (b : Bool). answer b (seenOf a f)) c)
         ∙ ap (λ (r : ℕ). run (held a l v t) (joinScript (grains 8 a) classes q (x - r) (r + (s + roomOf (seenOf a e))) (bothLeave (seenOf a e) (x - r) (seenOf a f)))) (room-is (f .grains) _)
         ∙ ap (λ (r : ℕ). run (held a l v t) (joinScript (grains 8 a) classes q (x - f .grains) (f .grains + (s + r)) (bothLeave (seenOf a e) (x - f .grains) (seenOf a f)))) (room-is (e .grains) _)
-        ∙ ap (λ (w : List Write). run (held a l v t) (joinScript (grains 8 a) classes q (x - f .grains) (f .grains + (s + e .grains)) w)) (both-leave a e f (x - f .grains) i j y u few h g k n b))
+        ∙ ap (λ (w : List Write). run (held a l v t) (joinScript (grains 8 a) classes q (x - f .grains) (f .grains + (s + e .grains)) w))
+        (both-leave a (firstOf e k) f (x - f .grains) few h g ∙ ap (bothLeaving a (firstOf e k)) (sym i)))
 
 -- ---- the owner
 

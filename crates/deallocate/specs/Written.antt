@@ -16,7 +16,7 @@ use Rattle.slices.specs.Arena.{putSize, putLink}
 use Rattle.free_list.specs.Lent.{lent, link, link-keep, grain-stored}
 use Rattle.free_list.specs.Written.{Written, WrittenLive, live-then, written-then, written-as, written-length}
 use Rattle.neighbours.specs.declared.Neighbour.{Neighbour}
-use Rattle.neighbours.specs.Leaving.{leavingOf, bothLeaving, leaving-keep}
+use Rattle.neighbours.specs.Leaving.{bothLeaving}
 use Rattle.deallocate.specs.declared.Plan.{Plan as PlanAnswer}
 use Rattle.deallocate.specs.Shown.{Able}
 
@@ -26,14 +26,11 @@ at-start a r h = omega (arith, h .inside)
 
 -- ---- both, and the joined block at the head of its list
 
-pub relisted : (e f : Neighbour) (k z h : ℕ) {a l b m c o d p : List ℕ} → Written a l (leavingOf a e) b m → Written b m (leavingOf b f) c o → Written c o (pushWrites k z (link c h)) d p
-    → Written a l (bothLeaving a e f ++ pushWrites k z (link a h)) d p
-relisted e f k z h {a} {l} {b} {m} {c} {o} {d} {p} i j u =
-    let x : length b ≡ length a = written-length {w = leavingOf a e} i in
-    let y : length c ≡ length b = written-length {w = leavingOf b f} j in
-    written-then {p = bothLeaving a e f} {q = pushWrites k z (link a h)}
-    (written-then {p = leavingOf a e} {q = leavingOf a f} i (written-as {p = leavingOf b f} (leaving-keep a b (f .grains) (f .list) (f .next) (f .prev) x) j))
-    (written-as {p = pushWrites k z (link c h)} (ap (pushWrites k z) (sym (link-keep a c h (y ∙ x)))) u)
+pub relisted : (e f : Neighbour) (k z h : ℕ) {a l b m c o : List ℕ} → Written a l (bothLeaving a e f) b m → Written b m (pushWrites k z (link b h)) c o
+    → Written a l (bothLeaving a e f ++ pushWrites k z (link a h)) c o
+relisted e f k z h {a} {b = b} i u =
+    written-then {p = bothLeaving a e f} {q = pushWrites k z (link a h)} i
+    (written-as {p = pushWrites k z (link b h)} (ap (pushWrites k z) (sym (link-keep a b h (written-length {w = bothLeaving a e f} i)))) u)
 
 -- ---- its two ends
 

@@ -65,12 +65,7 @@ fn plan_merge(a: &[u8], lists: &[u64], x: usize, s: usize) -> Plan
         next: e.next,
         prev: e.prev,
     };
-    let before = Neighbour {
-        grains: f.grains,
-        list: neighbours::list_of(f.grains),
-        next: neighbours::after(e.grains, e.prev, z, e.next, f.next),
-        prev: neighbours::after(e.grains, e.next, z, e.prev, f.prev),
-    };
+    let before = neighbours::second(behind, z, f);
     plan_join(a, lists, z, f.grains + (s + e.grains), behind, before)
 }
 
@@ -95,22 +90,7 @@ fn plan_join(
     if !h.ok {
         return refused(DAMAGED);
     }
-    let first = neighbours::head_after(
-        behind.grains,
-        behind.list,
-        behind.next,
-        behind.prev,
-        list,
-        h.word,
-    );
-    let head = neighbours::head_after(
-        before.grains,
-        before.list,
-        before.next,
-        before.prev,
-        list,
-        first,
-    );
+    let head = neighbours::head_after_both(behind, before, list, h.word);
     Plan {
         refusal: 0,
         at: z,
@@ -145,8 +125,7 @@ pub fn apply_back(a: &mut [u8], lists: &mut [u64], live: &mut [u64], q: usize, p
     ensures { λ r. ⌜ WrittenLive (now (a .entry)) (now (lists .entry)) (now (live .entry)) (backWrites (now (a .entry)) q p)
         (now (a .exit)) (now (lists .exit)) (now (live .exit)) ⌝ }
 {
-    neighbours::leave(a, lists, p.behind);
-    neighbours::leave(a, lists, p.before);
+    neighbours::leave_both(a, lists, p.behind, p.before);
     free_list::push(a, lists, p.list, p.at, p.head);
     put_free(a, p.at, p.grains);
     bits::clear_table_bit(live, q);

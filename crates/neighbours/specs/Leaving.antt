@@ -7,17 +7,17 @@ use mathlib.Core.List.{List, _++_}
 use lib.ListN.{length}
 use Rattle.bits.specs.Map.{lists}
 use Rattle.class.specs.Class.{listOf}
-use Rattle.script.specs.Memory.{Next, Prev, Write, latest}
+use Rattle.script.specs.Memory.{Next, Prev, root, Write, latest}
 use Rattle.sound.specs.Checks.{Entry, Beside}
 use Rattle.sound.specs.Links.{unlinkWrites}
 use Rattle.sound.specs.Plans.{roomOf, leaves, afterwards, bothLeave}
 use Rattle.slices.specs.Decode.{grains}
 use Rattle.free_list.specs.Lent.{link, Leads, link-keep, leads-keep}
-use Rattle.free_list.specs.Written.{Written, written-none}
+use Rattle.free_list.specs.Written.{Written, written-none, written-then, written-as, written-length}
 use Rattle.neighbours.specs.declared.Beside.{Beside as BesideAnswer}
 use Rattle.neighbours.specs.declared.Neighbour.{Neighbour}
 use Rattle.neighbours.specs.Shown.{someone}
-use Rattle.neighbours.specs.After.{relinked, leaving, next-after, prev-after}
+use Rattle.neighbours.specs.After.{relinked, headed, leaving, latest-append, next-after, prev-after, head-after}
 
 -- ---- its list, if it is there
 
@@ -54,6 +54,25 @@ Known a e = (e .grains ≡ 0 → ⊥) → Linked a e
 pub known-keep : (a b : List ℕ) (f : Neighbour) → length b ≡ length a → Known a f → Known b f
 known-keep a b f e k n = record { list = k n .list; next = leads-keep a b (f .next) e (k n .next); prev = leads-keep a b (f .prev) e (k n .prev) }
 
+-- ---- one after the other
+
+-- what was seen, in list k
+abbrev pub firstOf : BesideAnswer → ℕ → Neighbour
+firstOf e k = record { grains = e .grains; list = k; next = e .next; prev = e .prev }
+
+-- the free block f at z, after e left
+abbrev pub secondOf : Neighbour → ℕ → BesideAnswer → Neighbour
+secondOf e z f = record {
+  grains = f .grains;
+  list = listed (f .grains);
+  next = relinked (e .grains) (e .prev) (32 * z) (e .next) (f .next);
+  prev = relinked (e .grains) (e .next) (32 * z) (e .prev) (f .prev);
+}
+
+-- the head h of list j, after e and then f left
+abbrev pub headedBoth : Neighbour → Neighbour → ℕ → ℕ → ℕ
+headedBoth e f j h = headed (f .grains) (f .list) (f .next) (f .prev) j (headed (e .grains) (e .list) (e .next) (e .prev) j h)
+
 -- ---- the writes
 
 abbrev pub leavingOf : List ℕ → Neighbour → List Write
@@ -84,6 +103,11 @@ leaving-keep a b zero k x p e = refl
 leaving-keep a b (suc g) k x p e =
     ap (λ (y : ℕ). unlinkWrites k y (link a p)) (sym (link-keep a b x e)) ∙ ap (unlinkWrites k (link b x)) (sym (link-keep a b p e))
 
+-- both leave
+pub both-left : (e f : Neighbour) {a l b m c o : List ℕ} → Written a l (leavingOf a e) b m → Written b m (leavingOf b f) c o → Written a l (bothLeaving a e f) c o
+both-left e f {a} {b = b} i j = written-then {p = leavingOf a e} {q = leavingOf a f} i
+    (written-as {p = leavingOf b f} (leaving-keep a b (f .grains) (f .list) (f .next) (f .prev) (written-length {w = leavingOf a e} i)) j)
+
 -- ---- as the script has them
 
 -- what was seen of a neighbour
@@ -110,12 +134,20 @@ module _ (a : List ℕ) (k x p : ℕ) where
       ∙ ap (λ (y : ℕ). unlinkWrites k y (latest w Prev z (o .prev))) (sym f) ∙ ap (unlinkWrites k (link a x)) (sym h)
 
 -- both leave, the second from a list in which the first is no more
-pub both-leave : (a : List ℕ) (e f : BesideAnswer) (z i j y u : ℕ) → length a < 18446744073709551616 → z < grains 8 a → i ≡ listed (e .grains) → j ≡ listed (f .grains)
-    → y ≡ relinked (e .grains) (e .prev) (32 * z) (e .next) (f .next) → u ≡ relinked (e .grains) (e .next) (32 * z) (e .prev) (f .prev)
-    → bothLeave (seenOf a e) z (seenOf a f) ≡ leaving a (e .grains) i (e .next) (e .prev) ++ leaving a (f .grains) j y u
-both-leave a e f z i j y u s h p q c d =
-    let w = leaving a (e .grains) i (e .next) (e .prev) in
-    ap (λ (w : List Write). w ++ leaves (afterwards w z (seenOf a f))) (leaves-is a i (e .next) (e .prev) (e .grains) p)
-    ∙ ap (λ (o : List Write). w ++ o) (after-is a j y u w z (f .grains) (record { next = link a (f .next); prev = link a (f .prev) }) q
-    (ap (link a) c ∙ next-after a i (e .next) (e .prev) s (e .grains) z (f .next) h)
-    (ap (link a) d ∙ prev-after a i (e .next) (e .prev) s (e .grains) z (f .prev) h))
+pub both-leave : (a : List ℕ) (e : Neighbour) (f : BesideAnswer) (z : ℕ) → length a < 18446744073709551616 → z < grains 8 a → e .list ≡ listed (e .grains)
+    → bothLeave (someone (e .grains) (record { next = link a (e .next); prev = link a (e .prev) })) z (seenOf a f) ≡ bothLeaving a e (secondOf e z f)
+both-leave a e f z s h p =
+    let w = leavingOf a e in
+    let g = secondOf e z f in
+    ap (λ (w : List Write). w ++ leaves (afterwards w z (seenOf a f))) (leaves-is a (e .list) (e .next) (e .prev) (e .grains) p)
+    ∙ ap (λ (o : List Write). w ++ o) (after-is a (g .list) (g .next) (g .prev) w z (f .grains) (record { next = link a (f .next); prev = link a (f .prev) }) refl
+    (next-after a (e .list) (e .next) (e .prev) s (e .grains) z (f .next) h)
+    (prev-after a (e .list) (e .next) (e .prev) s (e .grains) z (f .prev) h))
+
+-- and the head of list k when they did
+pub head-both : (a : List ℕ) (e f : Neighbour) (k h : ℕ) → length a < 18446744073709551616 → Known a e → Known a f
+    → link a (headedBoth e f k h) ≡ latest (bothLeaving a e f) Next (root k) (link a h)
+head-both a e f k h s i j =
+    head-after a (f .list) (f .next) (f .prev) s (f .grains) k _ (λ n. j n .prev)
+    ∙ ap (latest (leavingOf a f) Next (root k)) (head-after a (e .list) (e .next) (e .prev) s (e .grains) k h (λ n. i n .prev))
+    ∙ sym (latest-append (leavingOf a e) (leavingOf a f) Next (root k) (link a h))

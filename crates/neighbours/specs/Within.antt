@@ -1,6 +1,6 @@
 -- What was seen of the block of a payload, and of its neighbours, lies in the arena, and their links lead: so what they are
 -- together can be counted and all that is planned can be written.
-use Prim.Native.Nat.{ℕ, zero, suc, _+_, _≤_, _<_}
+use Prim.Native.Nat.{ℕ, zero, suc, _+_, _*_, _≤_, _<_}
 use native.Mathlib.Omega.{arith}
 use mathlib.Core.Path.{_≡_, refl, ap, sym, _∙_, subst}
 use mathlib.Core.Bool.{Bool, true}
@@ -23,8 +23,9 @@ use Rattle.free_list.specs.Leading.{leads-valid}
 use Rattle.neighbours.specs.Shown.{shownOwner, someone, shownBeside}
 use Rattle.neighbours.specs.declared.Owner.{Owner as OwnerAnswer}
 use Rattle.neighbours.specs.declared.Beside.{Beside as BesideAnswer}
+use Rattle.neighbours.specs.declared.Neighbour.{Neighbour}
 use Rattle.neighbours.specs.After.{relinked, headed}
-use Rattle.neighbours.specs.Leaving.{Known, listed, listed-below}
+use Rattle.neighbours.specs.Leaving.{Known, listed, listed-below, headedBoth, firstOf, secondOf}
 
 -- ---- the block
 
@@ -99,15 +100,18 @@ headed-leads a (suc g) k x p j h f i = eq-case (Leads a) p noLink (ifEq k j x h)
 
 -- the first
 pub known-first : (a : List ℕ) (e : BesideAnswer) (k : ℕ) → k ≡ listed (e .grains) → ((e .grains ≡ 0 → ⊥) → Sighted a e)
-    → Known a (record { grains = e .grains; list = k; next = e .next; prev = e .prev })
+    → Known a (firstOf e k)
 known-first a e k q i n = record { list = listed-below (e .grains) k n q (i n .list); next = i n .next; prev = i n .prev }
 
 -- the second, after the first
-pub known-second : (a : List ℕ) (e f : BesideAnswer) (w k y u : ℕ) → ((e .grains ≡ 0 → ⊥) → Sighted a e) → k ≡ listed (f .grains) → ((f .grains ≡ 0 → ⊥) → Sighted a f)
-    → y ≡ relinked (e .grains) (e .prev) w (e .next) (f .next) → u ≡ relinked (e .grains) (e .next) w (e .prev) (f .prev)
-    → Known a (record { grains = f .grains; list = k; next = y; prev = u })
-known-second a e f w k y u i q j c d n = record {
-  list = listed-below (f .grains) k n q (j n .list);
-  next = subst (Leads a) (sym c) (relinked-leads a (e .grains) (e .prev) w (e .next) (f .next) (λ m. i m .next) (j n .next));
-  prev = subst (Leads a) (sym d) (relinked-leads a (e .grains) (e .next) w (e .prev) (f .prev) (λ m. i m .prev) (j n .prev));
+pub known-second : (a : List ℕ) (e : Neighbour) (f : BesideAnswer) (z : ℕ) → Known a e → ((f .grains ≡ 0 → ⊥) → Sighted a f) → Known a (secondOf e z f)
+known-second a e f z i j n = record {
+  list = listed-below (f .grains) (listed (f .grains)) n refl (j n .list);
+  next = relinked-leads a (e .grains) (e .prev) (32 * z) (e .next) (f .next) (λ m. i m .next) (j n .next);
+  prev = relinked-leads a (e .grains) (e .next) (32 * z) (e .prev) (f .prev) (λ m. i m .prev) (j n .prev);
 }
+
+-- the head of a list leads, when both left
+pub both-leads : (a : List ℕ) (e f : Neighbour) (k h : ℕ) → Known a e → Known a f → Leads a h → Leads a (headedBoth e f k h)
+both-leads a e f k h i j o =
+    headed-leads a (f .grains) (f .list) (f .next) (f .prev) k _ (λ n. j n .next) (headed-leads a (e .grains) (e .list) (e .next) (e .prev) k h (λ n. i n .next) o)

@@ -9,7 +9,7 @@ ghost use Rattle.free_list.specs.Written.{Written};
 ghost use Rattle.neighbours.specs.Shown.{refusal, alone, SeenOwner, SeenBlock, SeenBehind, SeenBefore};
 ghost use Rattle.neighbours.specs.Beside.{SeenListed};
 ghost use Rattle.neighbours.specs.After.{relinked, headed};
-ghost use Rattle.neighbours.specs.Leaving.{Known, leavingOf, listed};
+ghost use Rattle.neighbours.specs.Leaving.{Known, leavingOf, bothLeaving, listed, headedBoth, secondOf};
 use bits::LISTS;
 use header::BEFORE;
 use header::NONE;
@@ -216,11 +216,21 @@ pub fn leave(a: &mut [u8], lists: &mut [u64], e: Neighbour)
     free_list::unlink(a, lists, e.list, e.next, e.prev);
 }
 
+// Both neighbours of a block leave their lists, the one behind first.
+pub fn leave_both(a: &mut [u8], lists: &mut [u64], behind: Neighbour, before: Neighbour)
+    requires { ⌜ Known (now a) behind × Known (now a) before × Long (now lists) ⌝ }
+    ensures { λ r. ⌜ Written (now (a .entry)) (now (lists .entry)) (bothLeaving (now (a .entry)) behind before)
+        (now (a .exit)) (now (lists .exit)) ⌝ }
+{
+    leave(a, lists, behind);
+    leave(a, lists, before);
+}
+
 // ---- what the leaving of a neighbour changes
 
 // The link v of the grain z, after a neighbour of g grains left its list; its link b, where it led to z, was what led from z
 // to it, and leads to w now.
-pub fn after(g: usize, b: u64, z: usize, w: u64, v: u64) -> u64
+fn after(g: usize, b: u64, z: usize, w: u64, v: u64) -> u64
     requires { ⌜ z < 576460752303423488 ⌝ }
     ensures { λ r. ⌜ r ≡ relinked g b (32 * z) w v ⌝ }
 {
@@ -247,4 +257,32 @@ pub fn head_after(g: usize, k: usize, x: u64, p: u64, j: usize, h: u64) -> u64
         return h;
     }
     x
+}
+
+// The head h of list j, after the neighbour behind left, and then the one before.
+pub fn head_after_both(behind: Neighbour, before: Neighbour, j: usize, h: u64) -> u64
+    ensures { λ r. ⌜ r ≡ headedBoth behind before j h ⌝ }
+{
+    let first = head_after(behind.grains, behind.list, behind.next, behind.prev, j, h);
+    head_after(
+        before.grains,
+        before.list,
+        before.next,
+        before.prev,
+        j,
+        first,
+    )
+}
+
+// The free block f at z, before a used one, as it leaves its list after the neighbour behind left.
+pub fn second(behind: Neighbour, z: usize, f: Beside) -> Neighbour
+    requires { ⌜ (f .grains < 576460752303423488) × (z < 576460752303423488) ⌝ }
+    ensures { λ r. ⌜ r ≡ secondOf behind z f ⌝ }
+{
+    Neighbour {
+        grains: f.grains,
+        list: list_of(f.grains),
+        next: after(behind.grains, behind.prev, z, behind.next, f.next),
+        prev: after(behind.grains, behind.next, z, behind.prev, f.prev),
+    }
 }

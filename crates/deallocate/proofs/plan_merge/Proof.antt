@@ -2,11 +2,12 @@
 -- it will be when the first one left.
 use Prim.Native.Nat.{_+_, _≤_, _<_}
 use native.Mathlib.Omega.{arith}
-use mathlib.Core.Path.{_≡_, _∙_}
+use mathlib.Core.Path.{_≡_, sym, _∙_, subst}
 use mathlib.Core.List.{[]}
 use borrow.Author.Tests.{not-true, not-false}
 use Rattle.slices.specs.Decode.{grains}
 use Rattle.header.specs.Turned.{grains-few}
+use Rattle.neighbours.specs.Leaving.{Known, firstOf}
 use Rattle.neighbours.specs.Within.{Sighted, behind-within, before-within, known-first, known-second}
 use Rattle.deallocate.specs.Shown.{shown-damaged, damaged-unable}
 use Rattle.deallocate.specs.Join.{merge-behind-out, merge-before-out, merged}
@@ -74,56 +75,47 @@ sub-z c = before (c .before) .0
 list-of-requires : tie.Need-list-of-requires
 list-of-requires c κs = let e = c .before .before .before .before in omega (arith, behind e .0, few (e .before .before))
 
-list-of-requires-2 : tie.Need-list-of-requires-2
-list-of-requires-2 c κs =
+second-requires : tie.Need-second-requires
+second-requires c κs =
     let d = c .before .before in
     let e = d .before .before .before in
-    omega (arith, before d .0, behind e .0, few (e .before .before))
-
-after-requires : tie.Need-after-requires
-after-requires c κs =
-    let e = c .before .before .before .before .before .before in
-    omega (arith, behind e .0, few (e .before .before))
-
-after-requires-2 : tie.Need-after-requires-2
-after-requires-2 c κs =
-    let e = c .before .before .before .before .before .before .before in
-    omega (arith, behind e .0, few (e .before .before))
+    (omega (arith, before d .0, behind e .0, few (e .before .before)), omega (arith, behind e .0, few (e .before .before)))
 
 add-plan-join : tie.Need-add-plan-join
 add-plan-join c =
-    let e = c .before .before .before .before .before .before .before .before .before in
+    let e = c .before .before .before .before .before .before .before in
     omega (arith, behind e .0, few (e .before .before))
 
 add-plan-join-2 : tie.Need-add-plan-join-2
 add-plan-join-2 c =
-    let d = c .before .before .before .before .before .before .before in
+    let d = c .before .before .before .before .before in
     let e = d .before .before .before in
     omega (arith, before d .0, behind e .0, few (e .before .before))
 
 plan-join-requires : tie.Need-plan-join-requires
 plan-join-requires c κs =
     let o = c .before .before in
-    let k = o .before .before in
-    let d = k .before .before .before in
+    let k = o .before in
+    let d = k .before .before in
     let f = d .before .before in
     let e = f .before .before .before in
     let s = e .before .before .before in
+    let a = s .args .a .now in
     let b = behind (f .before) in
-    let p = before d in (
+    let p = before d in
+    let i = known-first a (e .see-behind .result) (k .list-of .result) (k .list-of .ensures) (b .1) in (
       omega (arith, s .pre .0),
       omega (arith, b .0, p .0),
       s .pre .2,
-      known-first (s .args .a .now) (e .see-behind .result) (k .before .list-of .result) (k .before .list-of .ensures) (b .1),
-      known-second (s .args .a .now) (e .see-behind .result) (f .see-before .result) _ (k .list-of2 .result) (o .before .after .result) (o .after2 .result) (b .1) (k .list-of2 .ensures) (p .1)
-          (o .before .after .ensures) (o .after2 .ensures),
+      i,
+      subst (Known a) (sym (o .second .ensures)) (known-second a (firstOf (e .see-behind .result) (k .list-of .result)) (f .see-before .result) _ i (p .1)),
     )
 
 returns-3 : tie.Need-returns-3
 returns-3 c =
     let o = c .before .before .before in
-    let k = o .before .before in
-    let d = k .before .before .before in
+    let k = o .before in
+    let d = k .before .before in
     let f = d .before .before in
     let e = f .before .before .before in
     let i = e .before .before .before in
@@ -132,8 +124,7 @@ returns-3 c =
       answer = λ q v t. c .plan-join .ensures .answer q v t
           ∙ merged (s .a .now) (s .lists .now) v t q (s .x) (s .s) (e .see-behind .result) (e .see-behind .ensures v t) (not-false _ (f .before .if1 .left))
           (f .see-before .result) (f .see-before .ensures v t) (not-false _ (d .if2 .left)) (i .good .0 .0) (omega (arith, b .0))
-          (k .before .list-of .result) (k .list-of2 .result) (o .before .after .result) (o .after2 .result) (k .before .list-of .ensures) (k .list-of2 .ensures)
-          (o .before .after .ensures) (o .after2 .ensures);
+          (k .list-of .result) (k .list-of .ensures) (o .second .result) (o .second .ensures);
       able = c .plan-join .ensures .able;
     }
 
@@ -150,9 +141,7 @@ plan-merge-spec =
     returns-2
     sub-z
     list-of-requires
-    list-of-requires-2
-    after-requires
-    after-requires-2
+    second-requires
     add-plan-join
     add-plan-join-2
     plan-join-requires
