@@ -11,6 +11,7 @@ use Rattle.script.specs.Memory.{Before, Next, Prev, Live, none, root, Write, _a
 use Rattle.sound.specs.Links.{unlinkWrites, pushWrites}
 use Rattle.sound.specs.Plans.{wholeWrites, splitWrites, padWrites}
 use Rattle.free_list.specs.Lent.{noLink, link, Leads, link-none, link-grain, below-none}
+use Rattle.carve.specs.Made.{leftBehind}
 use Rattle.occupy.specs.Taken.{Ready, takenWrites}
 use Rattle.undo.specs.declared.Saved.{Saved}
 use Rattle.undo.specs.Covered.{In, Covered, AllCovered, covered-then}
@@ -95,14 +96,12 @@ module _ (a l v : List ℕ) (k x y t m q h d : ℕ) (f : length a < 184467440737
   pub split-take : AllCovered all (takenWrites a k x y t m q h d)
   split-take =
       let u = unlinkWrites k (link a x) none in
-      let w = pushWrites q (y + m) (link a h) in
-      let e = padWrites y d ++ ((Live at 2 * y + d ≔ 1) ∷ []) in
-      subst (λ (z : List Write). AllCovered all (z ++ e)) (sym (eq-no m t _ _ n))
-      (covered-then all ((u ++ w) ++ splitWrites y t m) e
-      (covered-then all (u ++ w) (splitWrites y t m)
-      (covered-then all u w (unlink-covered a l v k x y t m q h d f r q h) push-covered)
-      (split-covered a l v k x y t m q h d f r q h))
-      (end-covered a l v k x y t m q h d f r q h))
+      let w = leftBehind y t m q (link a h) in
+      covered-then all (u ++ w) (padWrites y d ++ ((Live at 2 * y + d ≔ 1) ∷ []))
+      (covered-then all u w (unlink-covered a l v k x y t m q h d f r q h)
+      (subst (AllCovered all) (sym (eq-no m t _ _ n))
+      (covered-then all (pushWrites q (y + m) (link a h)) (splitWrites y t m) push-covered (split-covered a l v k x y t m q h d f r q h))))
+      (end-covered a l v k x y t m q h d f r q h)
 
 -- where nothing is left
 pub whole-take : (a l v : List ℕ) (k x y t m q h d : ℕ) → length a < 18446744073709551616 → Ready a l v k x y t m q h d → m ≡ t → (p j : ℕ)
@@ -110,8 +109,7 @@ pub whole-take : (a l v : List ℕ) (k x y t m q h d : ℕ) → length a < 18446
 whole-take a l v k x y t m q h d f r g p j =
     let s = savedOf a l v k x y t m p j d in
     let u = unlinkWrites k (link a x) none in
-    let e = padWrites y d ++ ((Live at 2 * y + d ≔ 1) ∷ []) in
-    subst (λ (z : List Write). AllCovered s (z ++ e)) (sym (eq-yes m t _ _ g))
-    (covered-then s (u ++ wholeWrites y t) e
-    (covered-then s u (wholeWrites y t) (unlink-covered a l v k x y t m q h d f r p j) (whole-covered a l v k x y t m q h d f r p j))
-    (end-covered a l v k x y t m q h d f r p j))
+    let w = leftBehind y t m q (link a h) in
+    covered-then s (u ++ w) (padWrites y d ++ ((Live at 2 * y + d ≔ 1) ∷ []))
+    (covered-then s u w (unlink-covered a l v k x y t m q h d f r p j) (subst (AllCovered s) (sym (eq-yes m t _ _ g)) (whole-covered a l v k x y t m q h d f r p j)))
+    (end-covered a l v k x y t m q h d f r p j)
