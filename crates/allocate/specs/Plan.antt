@@ -29,7 +29,7 @@ use Rattle.allocate.specs.Rest.{leftWrites, SeenRest}
 
 -- the writes w that leave the block, the pad, and the live bit, for a payload at place d of the block at y
 abbrev madeOf : ℕ → ℕ → List Write → Answer
-madeOf y d w = record { answer = 2 * y + d; writes = w ++ (padWrites y d ++ ((Live at 2 * y + d ≔ 1) ∷ [])); moved = 0 }
+madeOf y d w = record { answer = 2 * y + d; writes = w ++ (padWrites y d ++ ((Live at 2 * y + d ≔ 1) ∷ [])); moved = 0; early = 0 }
 
 abbrev pub madeBy : List ℕ → Plan → Answer
 madeBy a r = madeOf (r .at) (r .place) (leftWrites a (r .list) (r .next) (r .at) (r .grains) (r .keep) (r .«rest_list») (r .head))

@@ -34,12 +34,12 @@ module _ (a l v t : List ℕ) (q z g k : ℕ) (w : List Write) (e : k ≡ listOf
 
   module _ (h : k < lists) (r : Head) (f : shownHead a r ≡ run (held a l v t) (seeHead (grains 8 a) k)) where
     join-listed : run (held a l v t) (joinScript (grains 8 a) classes q z g w) ≡ run (held a l v t) (seeHead (grains 8 a) k >>= (λ h.
-        done (record { answer = 0; moved = 0; writes = (w ++ pushWrites k z (latest w Next (root k) h)) ++ freeWrites q z g })))
+        done (record { answer = 0; moved = 0; early = 0; writes = (w ++ pushWrites k z (latest w Next (root k) h)) ++ freeWrites q z g })))
     unfolding joinScript
     join-listed =
         let m = held a l v t in
         goes m (mustList classes g) _ (gives-le m 5 (suc (listOf g)) lists (omega arith))
-        ∙ ap (λ (i : ℕ). run m (seeHead (grains 8 a) i >>= (λ h. done (record { answer = 0; moved = 0; writes = (w ++ pushWrites i z (latest w Next (root i) h)) ++ freeWrites q z g })))) (sym e)
+        ∙ ap (λ (i : ℕ). run m (seeHead (grains 8 a) i >>= (λ h. done (record { answer = 0; moved = 0; early = 0; writes = (w ++ pushWrites i z (latest w Next (root i) h)) ++ freeWrites q z g })))) (sym e)
 
     -- what is beside its head doesn't agree
     pub join-headless : r .ok ≡ false → no 5 ≡ run (held a l v t) (joinScript (grains 8 a) classes q z g w)
@@ -47,10 +47,10 @@ module _ (a l v t : List ℕ) (q z g k : ℕ) (w : List Write) (e : k ≡ listOf
 
     -- all agrees
     pub joined : r .ok ≡ true → (x : ℕ) → link a x ≡ latest w Next (root k) (link a (r .word))
-        → ok (record { answer = 0; moved = 0; writes = (w ++ pushWrites k z (link a x)) ++ freeWrites q z g }) ≡ run (held a l v t) (joinScript (grains 8 a) classes q z g w)
+        → ok (record { answer = 0; moved = 0; early = 0; writes = (w ++ pushWrites k z (link a x)) ++ freeWrites q z g }) ≡ run (held a l v t) (joinScript (grains 8 a) classes q z g w)
     joined o x d = sym (
         join-listed ∙ goes (held a l v t) (seeHead (grains 8 a) k) _ (sym f ∙ ap (λ (b : Bool). answer b (link a (r .word))) o)
-        ∙ gives-done (held a l v t) _ ∙ ap (λ (y : ℕ). ok (record { answer = 0; moved = 0; writes = (w ++ pushWrites k z y) ++ freeWrites q z g })) (sym d))
+        ∙ gives-done (held a l v t) _ ∙ ap (λ (y : ℕ). ok (record { answer = 0; moved = 0; early = 0; writes = (w ++ pushWrites k z y) ++ freeWrites q z g })) (sym d))
 
 -- ---- the neighbours
 

@@ -22,13 +22,13 @@ backWrites a q r = (bothLeaving a (r .behind) (r .before) ++ pushWrites (r .list
 
 -- the plan for the payload at q
 abbrev pub shown : List ℕ → ℕ → PlanAnswer → Result Plan
-shown a q r = unless (r .refusal) (record { answer = 0; moved = 0; writes = backWrites a q r })
+shown a q r = unless (r .refusal) (record { answer = 0; moved = 0; early = 0; writes = backWrites a q r })
 
 pub shown-refused : (a : List ℕ) (q w : ℕ) (r : PlanAnswer) → r .refusal ≡ w → (w ≡ 0 → ⊥) → shown a q r ≡ no w
 shown-refused a q w r e n = ap (λ (u : ℕ). unless u p) e ∙ unless-no w p n
   where
     p : Plan
-    p = record { answer = 0; moved = 0; writes = backWrites a q r }
+    p = record { answer = 0; moved = 0; early = 0; writes = backWrites a q r }
 
 pub shown-damaged : (a : List ℕ) (q : ℕ) (r : PlanAnswer) → r .refusal ≡ 5 → shown a q r ≡ no 5
 shown-damaged a q r e = shown-refused a q 5 r e (λ q. omega arith)

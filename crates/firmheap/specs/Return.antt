@@ -37,7 +37,7 @@ module _ (a l v : List ℕ) (q : ℕ) (e : LongEnough (length a) (length l) (len
 
   module _ (h : q / 2 < grains 8 a) (r : BackPlan) (s : BackPlanned a l v q r) where
     abbrev planned : Plan
-    planned = record { answer = 0; moved = 0; writes = backWrites a q r }
+    planned = record { answer = 0; moved = 0; early = 0; writes = backWrites a q r }
 
     -- refused
     pub back-refused : (r .refusal ≡ 0 → ⊥) → GivesBack a l v q (not (r .refusal)) a l v

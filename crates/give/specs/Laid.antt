@@ -19,7 +19,7 @@ use Rattle.region.specs.Row.{row-laid}
 module _ (m : Memory) (n g len c : ℕ) where
   -- the region laid out by w, with o grains left over
   pub laid-planned : (w : List Write) (o : ℕ) → Gives m (layScript n 12 len [] g len) (record { writes = w; over = o })
-      → run m (laying n 12 g len c) ≡ ok (record { answer = len - o; moved = 0; writes = w ++ entryWrites c g (g + (len - o)) })
+      → run m (laying n 12 g len c) ≡ ok (record { answer = len - o; moved = 0; early = 0; writes = w ++ entryWrites c g (g + (len - o)) })
   laid-planned w o q = goes m (layScript n 12 len [] g len) _ q ∙ gives-done m _
 
   pub laid-refused : (r : ℕ) → run m (layScript n 12 len [] g len) ≡ no r → run m (laying n 12 g len c) ≡ no r

@@ -35,7 +35,7 @@ givenWrites a t r = layoutWrites a r ++ entryWrites (entry t 0) (r .at) (r .at +
 
 -- what is planned, with c regions in the table
 abbrev pub planOf : List ℕ → ℕ → PlanAnswer → Plan
-planOf a c r = record { answer = r .used; moved = 0; writes = layoutWrites a r ++ entryWrites c (r .at) (r .at + r .used) }
+planOf a c r = record { answer = r .used; moved = 0; early = 0; writes = layoutWrites a r ++ entryWrites c (r .at) (r .at + r .used) }
 
 abbrev pub shownBehind : List ℕ → ℕ → PlanAnswer → Result Plan
 shownBehind a c r = unless (r .refusal) (planOf a c r)

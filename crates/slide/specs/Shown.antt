@@ -36,7 +36,7 @@ downWrites a q r = leftBehind (r .at) (r .grains) (r .keep) (r .list) (link a (r
 
 -- both parts, where u half grains at q may have to be carried between them
 abbrev pub slid : List ℕ → ℕ → ℕ → PlanAnswer → Plan
-slid a q u r = record { answer = 2 * r .at + r .place; writes = bothLeaving a (r .behind) (r .before) ++ downWrites a q r; moved = u }
+slid a q u r = record { answer = 2 * r .at + r .place; writes = bothLeaving a (r .behind) (r .before) ++ downWrites a q r; moved = u; early = length (bothLeaving a (r .behind) (r .before)) }
 
 -- by the kind: the plan p; or else the call goes on, to the result o
 abbrev pub byKind : ℕ → Plan → Result Plan → Result Plan

@@ -93,7 +93,7 @@ module _ (a l : List ℕ) (z t : ℕ) (e f : Neighbour) (d p k : ℕ) (j : k ≡
 
   -- the payload at q is planned to move to place g, u half grains of it, after the writes w
   abbrev moved : ℕ → ℕ → ℕ → List Write → Plan
-  moved q u g w = record { answer = 2 * z + g; moved = u; writes = w ++ turnWrites q z g }
+  moved q u g w = record { answer = 2 * z + g; moved = u; early = length (bothLeaving a e f); writes = w ++ turnWrites q z g }
 
   module _ (h : k ≤ t) where
     enough : (q u m : ℕ) → d ≡ place m z → (v o : List ℕ) → run (held a l v o) (downScript (grains 8 a) classes q p m u z t (bothLeaving a e f))
@@ -125,7 +125,7 @@ module _ (a l : List ℕ) (z t : ℕ) (e f : Neighbour) (d p k : ℕ) (j : k ≡
           → Downs a l z t e f d p (record { refusal = 0; kind = 0; at = z; grains = t; behind = e; before = f; place = d; keep = k; list = y .list; head = y .head })
       down-made pos inside ke kf b = record {
         answers = λ q u m i v o.
-            ap (λ (w : List Write). ok (record { answer = 2 * z + d; moved = u; writes = w })) (sym (append-assoc (bothLeaving a e f) (leftBehind z t k (y .list) (link a (y .head))) (turnWrites q z d)))
+            ap (λ (w : List Write). ok (record { answer = 2 * z + d; moved = u; early = length (bothLeaving a e f); writes = w })) (sym (append-assoc (bothLeaving a e f) (leftBehind z t k (y .list) (link a (y .head))) (turnWrites q z d)))
             ∙ sym (enough q u m i v o ∙ goes (held a l v o) (leaveScript (grains 8 a) classes (bothLeaving a e f) z t k) _ (sym (s .seen v o z) ∙ ap (λ (x : Bool). answer x made) b)
             ∙ gives-done (held a l v o) _);
         able = λ _ _. record {

@@ -6,6 +6,7 @@ use Prim.Native.Nat.{ℕ, _+_, _-_, _*_, _%_, _≤_}
 use native.Mathlib.Omega.{arith}
 use mathlib.Core.Path.{_≡_, ap, sym, _∙_, subst}
 use mathlib.Core.List.{List, [], _∷_, _++_, append-assoc}
+use lib.ListN.{length}
 use mathlib.Core.Logic.{⊎-elim}
 use Rattle.choice.specs.Choice.{ifEq, eq-yes, eq-no, eq-case, same?}
 use Rattle.class.specs.Class.{listOf}
@@ -34,6 +35,7 @@ pub record Carried (y s d p : ℕ) (t : Plan) : Type 0 where
   pub first : List Write
   pub second : List Write
   pub parts : t .writes ≡ first ++ second
+  pub early : t .early ≡ length first
   pub start : ℕ
   pub grains : ℕ
   pub place : ℕ
@@ -77,10 +79,11 @@ module _ (n c p a : ℕ) (m : Memory) (f : Lists) (l r : List Block) (s d : ℕ)
 
   -- down into the free block before: the words are carried when the free parts have left their lists
   sink-carried : (t : Plan) → 2 * s - d ≤ p → keeps (place a (total (past l))) p ≤ room l + (s + room r) → t .answer ≡ 2 * total (past l) + place a (total (past l)) → t .moved ≡ 2 * s - d
+      → t .early ≡ length (bothLeave (beside m r (total l + s)) (total (past l)) (beside m l (total (past l))))
       → t .writes ≡ leaveWrites m (bothLeave (beside m r (total l + s)) (total (past l)) (beside m l (total (past l)))) (total (past l)) (room l + (s + room r)) (keeps (place a (total (past l))) p)
       ++ (padWrites (total (past l)) (place a (total (past l))) ++ ((Live at 2 * total l + d ≔ 0) ∷ (Live at 2 * total (past l) + place a (total (past l)) ≔ 1) ∷ []))
       → Carried (total l) s d p t
-  sink-carried t enough fits answer moved w =
+  sink-carried t enough fits answer moved early w =
       let z = total (past l) in
       let e = place a z in
       let k = keeps e p in
@@ -96,6 +99,7 @@ module _ (n c p a : ℕ) (m : Memory) (f : Lists) (l r : List Block) (s d : ℕ)
         first = out-both;
         second = leftWrites m out-both z i k ++ (padWrites z e ++ v);
         parts = w ∙ ap (λ (u : List Write). u ++ (padWrites z e ++ v)) (left-parts m out-both z i k) ∙ append-assoc out-both (leftWrites m out-both z i k) (padWrites z e ++ v);
+        early = early;
         start = z;
         grains = k;
         place = e;
@@ -123,6 +127,7 @@ module _ (n c p a : ℕ) (m : Memory) (h : Heap) (al : Align a) (o : Sound n c m
         first = k .first .writes;
         second = k .second .writes;
         parts = k .writes;
+        early = k .early;
         start = v .x;
         grains = v .s;
         place = v .d;
@@ -141,7 +146,7 @@ step-carried : (n c p a : ℕ) (m : Memory) (f : Lists) (l r : List Block) (s d 
     → Step n c p a m f l r s d al o t → (t .answer ≡ 2 * total l + d → ⊥) → Carried (total l) s d p t
 step-carried n c p a m f l r s d al o t (stays e w) ne = absurd (ne e)
 step-carried n c p a m f l r s d al o t (stretches h e w) ne = absurd (ne e)
-step-carried n c p a m f l r s d al o t (sinks some big fits answer moved w) ne = sink-carried n c p a m f l r s d al o t (omega arith) fits answer moved w
+step-carried n c p a m f l r s d al o t (sinks some big fits answer moved early w) ne = sink-carried n c p a m f l r s d al o t (omega arith) fits answer moved early w
 step-carried n c p a m f l r s d al o t (moves u eu big g) ne = far-carried n c p a m (Here f l (used s d) r) al o (2 * total l + d) u t (total l) s d eu (omega arith) g (at-here l r (used s d)) ne
 
 -- whenever the payload gets another place

@@ -96,7 +96,7 @@ module _ (n c p a : ℕ) (m : Memory) (f : Lists) (l r : List Block) (s d : ℕ)
           (aside-edge y i start all (total l) ad (omega (arith, total-past l)) (omega (arith, total-past l)))
           (aside-edge y i start all (total l + (s + room r)) ad (omega (arith, total-past l)) (omega (arith, total-past l)))
           (λ v. aside-off y i start all (total l + keeps d p) ad (omega (arith, total-past l)) (omega (arith, total-past l, v)))))
-      go (sinks some big fits answer moved w) = spares-from y i e pe (t .writes) (rw w (placed-off m f (skip l start (skip r (total l + s) f)) (bothLeave next start (beside m l start)) (skips-both n c m f l r s d o) y i small
+      go (sinks some big fits answer moved early w) = spares-from y i e pe (t .writes) (rw w (placed-off m f (skip l start (skip r (total l + s) f)) (bothLeave next start (beside m l start)) (skips-both n c m f l r s d o) y i small
           (λ u v j k h. un u v j k (fewer-both n c m f l r s d o k u h)) start all (keeps (place a start) p) (place a start) _ (refl, (refl, tt))
           (both-off n c m f l r s d o y i small un) ad fits (place-some a start (align-pos a al)) (omega (arith, keeps-holds (place a start) p))))
       go (moves u eu big g) = elsewhere-spares n c p a m (Here f l (used s d) r) al o q u t y i e g b ne
@@ -116,7 +116,7 @@ module _ (n c p a : ℕ) (m : Memory) (f : Lists) (l r : List Block) (s d : ℕ)
       go (stretches h j w) = spares-from (total l) (min s (keeps d p)) d (whole .1 .some) (t .writes) (rw w (stretch-off (total l) (min s (keeps d p))
           (omega (arith, used-small n c m (Here f l (used s d) r) o (total l) s d here))
           (λ u i j. used-unlisted c blocks f (total l) s d (o .heap) here u i (omega arith)) (λ i j. omega arith) (λ i j. omega arith) (λ v i j. omega arith)))
-      go (sinks some big fits answer moved w) = absurd (omega (arith, total-past l))
+      go (sinks some big fits answer moved early w) = absurd (omega (arith, total-past l))
       go (moves u eu big g) = absurd (elsewhere-other n c p a m (Here f l (used s d) r) al o q u t (total l) s d g here e)
 
 -- ---- resize

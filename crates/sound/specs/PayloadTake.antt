@@ -66,7 +66,7 @@ module _ (n c p a : ℕ) (m : Memory) (h : Heap) (al : Align a) (o : Sound n c m
   -- the parts of the plan given
   taken : (t : Plan) (w : List Write) (k y s : ℕ) → startOf (wanted p a) ≤ k → m Next (root k) ≡ y → y < n → Gives m (mustFree y) s → listOf s ≡ k → m Prev y ≡ none
       → Gives m (leaveScript n c (unlinkWrites k (m Next y) none) y s (keeps (place a y) p)) w
-      → record { answer = 2 * y + place a y; writes = w ++ (padWrites y (place a y) ++ ((Live at 2 * y + place a y ≔ 1) ∷ [])); moved = 0 } ≡ t
+      → record { answer = 2 * y + place a y; writes = w ++ (padWrites y (place a y) ++ ((Live at 2 * y + place a y ≔ 1) ∷ [])); moved = 0; early = 0 } ≡ t
       → Taking n c p a m h t
   taken t w k y s low e i f li pr lv pl =
       let j : Mem y (h .lists k) = ⊎-elim (λ (q : m Next (root k) ≡ none). absurd (omega (arith, o .small))) (λ (q : Mem (m Next (root k)) (h .lists k)). rw e at q)

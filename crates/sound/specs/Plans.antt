@@ -2,6 +2,7 @@
 -- be written. A refusal plans nothing. Numbers as in the definition: p half grains at a multiple of a, a payload at q.
 use Prim.Native.Nat.{ℕ, zero, suc, _+_, _-_, _*_, _/_, _%_, _≤_, _<_}
 use mathlib.Core.List.{List, [], _∷_, _++_}
+use lib.ListN.{length}
 use Rattle.choice.specs.Choice.{ifEq, ifLe}
 use Rattle.class.specs.Class.{listOf, startOf}
 use Rattle.definition.specs.Calls.{wanted, place, keeps}
@@ -10,11 +11,13 @@ use Rattle.script.specs.Script.{Script, read, first, done, stop, _>>=_, _>>_, g
 use Rattle.sound.specs.Checks.{wordOf, mustGrain, mustLead, mustBack, mustBusy, mustFree, mustList, Entry, seeEntry, seeHead, Beside, nobody, somebody, seeBehind, seeBefore, Owner, seeOwner}
 use Rattle.sound.specs.Links.{unlinkWrites, pushWrites}
 
--- the answer, what is written, and how many half grains at the old payload may have to be moved to the new one
+-- the answer, what is written, and how many half grains at the old payload may have to be moved to the new one: after the
+-- first `early` of the writes, and before the others
 pub record Plan : Type 0 where
   pub answer : ℕ
   pub writes : List Write
   pub moved : ℕ
+  pub early : ℕ
 
 -- ---- parts of plans
 
@@ -68,7 +71,7 @@ takeScript n c p a = do
   mustBusy (y + s)
   mustLead Before (y + s) y
   w ← leaveScript n c (unlinkWrites k x none) y s (keeps (place a y) p)
-  done (record { answer = 2 * y + place a y; writes = w ++ (padWrites y (place a y) ++ ((Live at 2 * y + place a y ≔ 1) ∷ [])); moved = 0 })
+  done (record { answer = 2 * y + place a y; writes = w ++ (padWrites y (place a y) ++ ((Live at 2 * y + place a y ≔ 1) ∷ [])); moved = 0; early = 0 })
 
 -- ---- return
 
@@ -79,7 +82,7 @@ unfoldable pub joinScript : ℕ → ℕ → ℕ → ℕ → ℕ → List Write �
 joinScript n c q z t w = do
   mustList c t
   h ← seeHead n (listOf t)
-  done (record { answer = 0; moved = 0; writes = (w ++ pushWrites (listOf t) z (latest w Next (root (listOf t)) h)) ++ freeWrites q z t })
+  done (record { answer = 0; moved = 0; early = 0; writes = (w ++ pushWrites (listOf t) z (latest w Next (root (listOf t)) h)) ++ freeWrites q z t })
 
 unfoldable pub giveBackScript : ℕ → ℕ → ℕ → Script Plan
 giveBackScript n c q = do
@@ -95,13 +98,13 @@ unfoldable pub elsewhereScript : ℕ → ℕ → ℕ → ℕ → ℕ → ℕ →
 elsewhereScript n c q p a u = do
   t ← takeScript n c p a
   b ← over (t .writes) (giveBackScript n c q)
-  done (record { answer = t .answer; writes = t .writes ++ b .writes; moved = u })
+  done (record { answer = t .answer; writes = t .writes ++ b .writes; moved = u; early = length (t .writes) })
 
 -- step 3: the block becomes one of t grains at z
 unfoldable pub downScript : ℕ → ℕ → ℕ → ℕ → ℕ → ℕ → ℕ → ℕ → List Write → Script Plan
 downScript n c q p a u z t w = ifLe (keeps (place a z) p) t (do
   v ← leaveScript n c w z t (keeps (place a z) p)
-  done (record { answer = 2 * z + place a z; moved = u; writes = v ++ (padWrites z (place a z) ++ ((Live at q ≔ 0) ∷ (Live at 2 * z + place a z ≔ 1) ∷ [])) }))
+  done (record { answer = 2 * z + place a z; moved = u; early = length w; writes = v ++ (padWrites z (place a z) ++ ((Live at q ≔ 0) ∷ (Live at 2 * z + place a z ≔ 1) ∷ [])) }))
     (elsewhereScript n c q p a u)
 
 -- step 3, where a free block stands before it; else step 4. The block of s grains at x, and what stands behind it
@@ -116,12 +119,12 @@ unfoldable pub stretchScript : ℕ → ℕ → ℕ → ℕ → ℕ → ℕ → �
 stretchScript n c q p a d x s b = ifLe (keeps d p) (s + roomOf b)
     (do
       w ← leaveScript n c (leaves b) x (s + roomOf b) (keeps d p)
-      done (record { answer = q; writes = w; moved = 0 }))
+      done (record { answer = q; writes = w; moved = 0; early = 0 }))
     (moveScript n c q p a x s b)
 
 -- nothing to do, where the block keeps its size
 unfoldable pub growScript : ℕ → ℕ → ℕ → ℕ → ℕ → ℕ → ℕ → ℕ → Script Plan
-growScript n c q p a d x s = ifEq (keeps d p) s (done (record { answer = q; writes = []; moved = 0 })) (do
+growScript n c q p a d x s = ifEq (keeps d p) s (done (record { answer = q; writes = []; moved = 0; early = 0 })) (do
   b ← seeBehind n c (x + s)
   stretchScript n c q p a d x s b)
 

@@ -49,7 +49,7 @@ entryWrites r g e = (Table at 2 * r + 1 ≔ g) ∷ (Table at 2 * r + 2 ≔ e) �
 
 -- the plan for len grains from g on, laid out as w says, which become region r
 abbrev pub planned : ℕ → ℕ → ℕ → Layout → Plan
-planned r g len w = record { answer = len - w .over; moved = 0; writes = w .writes ++ entryWrites r g (g + (len - w .over)) }
+planned r g len w = record { answer = len - w .over; moved = 0; early = 0; writes = w .writes ++ entryWrites r g (g + (len - w .over)) }
 
 -- behind: 1 where the region must begin where another ended
 unfoldable pub regionScript : ℕ → ℕ → ℕ → ℕ → ℕ → ℕ → Script Plan

@@ -4,6 +4,7 @@ use Prim.Native.Nat.{ℕ, _+_, _-_, _*_, _≤_}
 use native.Mathlib.Omega.{arith}
 use mathlib.Core.Path.{_≡_, refl, ap, _∙_, subst}
 use mathlib.Core.List.{List, [], _∷_, _++_}
+use lib.ListN.{length}
 use mathlib.Core.Logic.{⊎-elim}
 use Rattle.choice.specs.Choice.{le-yes, eq-case}
 use Rattle.definition.specs.Blocks.{Block, free, used, last, gap, total, _⟨⟩_, room, past, payload}
@@ -125,6 +126,7 @@ module _ (n c p a : ℕ) (m : Memory) (f : Lists) (l r : List Block) (s d : ℕ)
         writes = leaveWrites m (bothLeave (beside m r (total l + s)) (total (past l)) (beside m l (total (past l)))) (total (past l)) (room l + (s + room r)) (keeps (place a (total (past l))) p)
             ++ (padWrites (total (past l)) (place a (total (past l))) ++ ((Live at 2 * total l + d ≔ 0) ∷ (Live at 2 * total (past l) + place a (total (past l)) ≔ 1) ∷ []));
         moved = u;
+        early = length (bothLeave (beside m r (total l + s)) (total (past l)) (beside m l (total (past l))));
       };
       gives = ap (run m) (le-yes (keeps (place a (total (past l))) p) (room l + (s + room r)) _ _ le)
           ∙ gives-bind m (leaveScript n c (bothLeave (beside m r (total l + s)) (total (past l)) (beside m l (total (past l)))) (total (past l)) (room l + (s + room r)) (keeps (place a (total (past l))) p)) _

@@ -29,7 +29,7 @@ use Rattle.sound.specs.Skips.{skips-behind, fewer-behind, not-in-behind}
 
 -- a plan that leaves the payload where it is
 abbrev pub inPlace : ℕ → List Write → Plan
-inPlace q w = record { answer = q; writes = w; moved = 0 }
+inPlace q w = record { answer = q; writes = w; moved = 0; early = 0 }
 
 -- ---- a used block, its neighbours, and what it keeps
 

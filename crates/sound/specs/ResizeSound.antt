@@ -3,6 +3,7 @@ use Prim.Native.Nat.{ℕ, _+_, _-_, _*_, _≤_, _<_}
 use native.Mathlib.Omega.{arith}
 use mathlib.Core.Path.{_≡_, refl, ap, sym, _∙_, subst}
 use mathlib.Core.List.{List, [], _∷_, _++_}
+use lib.ListN.{length}
 use mathlib.Core.Logic.{⊎-elim}
 use Rattle.choice.specs.Choice.{ifEq, ifLe, eq-yes, eq-no, le-yes, le-no, same?, le?}
 use Rattle.definition.specs.Blocks.{Block, used, size, total, _⟨⟩_, room, past, Place}
@@ -35,7 +36,7 @@ module _ (n c q p a u : ℕ) (m : Memory) where
   back-part v g t e i (refused w) b =
       goes m (takeScript n c p a) _ e ∙ halts m (over (t .writes) (giveBackScript n c q)) _ (over-run m (t .writes) (giveBackScript n c q) 24 (back-reads n c q) ∙ b)
   back-part v g t e i (granted z k) b = record {
-    plan = record { answer = t .answer; writes = t .writes ++ b .plan .writes; moved = u };
+    plan = record { answer = t .answer; writes = t .writes ++ b .plan .writes; moved = u; early = length (t .writes) };
     gives = goes m (takeScript n c p a) _ e
         ∙ gives-bind m (over (t .writes) (giveBackScript n c q)) _ (over-run m (t .writes) (giveBackScript n c q) 24 (back-reads n c q) ∙ b .gives) (gives-done m _);
     answer = i;

@@ -3,6 +3,7 @@ use Prim.Native.Nat.{ℕ, _+_, _-_, _*_, _≤_, _<_}
 use native.Mathlib.Omega.{arith}
 use mathlib.Core.Path.{_≡_, refl, ap, sym, _∙_, subst}
 use mathlib.Core.List.{List, [], _∷_, _++_}
+use lib.ListN.{length}
 use mathlib.Core.Logic.{⊎-elim}
 use Rattle.choice.specs.Choice.{eq-yes, eq-no, le-yes, le-no, same?, le?}
 use Rattle.definition.specs.Blocks.{Block, used, total, room, past}
@@ -35,6 +36,7 @@ module _ (n c p a : ℕ) (m : Memory) where
     pub returns : Gives (apply m (first .writes)) (giveBackScript n c q) second
     pub answer : t .answer ≡ first .answer
     pub moved : t .moved ≡ u
+    pub early : t .early ≡ length (first .writes)
     pub writes : t .writes ≡ first .writes ++ second .writes
 
   -- step 4 is made of them
@@ -51,6 +53,7 @@ module _ (n c p a : ℕ) (m : Memory) where
         returns = sym (over-run m (i .0 .writes) (giveBackScript n c q) 24 (back-reads n c q)) ∙ j .1;
         answer = ap (λ (v : Plan). v .answer) (sym e);
         moved = ap (λ (v : Plan). v .moved) (sym e);
+        early = ap (λ (v : Plan). v .early) (sym e);
         writes = ap (λ (v : Plan). v .writes) (sym e);
       }
 
@@ -99,7 +102,7 @@ module _ (n c p a : ℕ) (m : Memory) (f : Lists) (l r : List Block) (s d : ℕ)
   pub data Step (t : Plan) : Type 0 where
     stays : t .answer ≡ q → t .writes ≡ [] → Step t
     stretches : keeps d p ≤ s + room r → t .answer ≡ q → t .writes ≡ leaveWrites m (leaves next) (total l) (s + room r) (keeps d p) → Step t
-    sinks : 1 ≤ room l → s + room r < keeps d p → keeps (place a start) p ≤ all → t .answer ≡ 2 * start + place a start → t .moved ≡ 2 * s - d
+    sinks : 1 ≤ room l → s + room r < keeps d p → keeps (place a start) p ≤ all → t .answer ≡ 2 * start + place a start → t .moved ≡ 2 * s - d → t .early ≡ length out-both
         → t .writes ≡ leaveWrites m out-both start all (keeps (place a start) p) ++ (padWrites start (place a start) ++ ((Live at q ≔ 0) ∷ (Live at 2 * start + place a start ≔ 1) ∷ [])) → Step t
     moves : (u : ℕ) → u ≡ 2 * s - d → s + room r < keeps d p → Gives m (elsewhereScript n c q p a u) t → Step t
 
@@ -110,7 +113,7 @@ module _ (n c p a : ℕ) (m : Memory) (f : Lists) (l r : List Block) (s d : ℕ)
       (λ (h : keeps (place a start) p ≤ all).
       let i = inv-bind m (leaveScript n c out-both start all (keeps (place a start) p)) _ (sym (ap (run m) (le-yes (keeps (place a start) p) all _ _ h)) ∙ g) in
       let e = inv-done m _ t (i .2) in
-      sinks some big h (ap (λ (v : Plan). v .answer) (sym e)) (ap (λ (v : Plan). v .moved) (sym e) ∙ eu) (ap (λ (v : Plan). v .writes) (sym e)
+      sinks some big h (ap (λ (v : Plan). v .answer) (sym e)) (ap (λ (v : Plan). v .moved) (sym e) ∙ eu) (ap (λ (v : Plan). v .early) (sym e)) (ap (λ (v : Plan). v .writes) (sym e)
       ∙ ap (λ (v : List Write). v ++ (padWrites start (place a start) ++ ((Live at q ≔ 0) ∷ (Live at 2 * start + place a start ≔ 1) ∷ [])))
       (leave-planned n c m out-both (i .0) start all (keeps (place a start) p) (head-seen n c m (Here f l (used s d) r) o) (i .1))))
       (λ (h : all < keeps (place a start) p). moves u eu big (sym (ap (run m) (le-no (keeps (place a start) p) all _ _ (omega arith))) ∙ g))

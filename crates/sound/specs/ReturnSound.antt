@@ -42,7 +42,7 @@ listWrites m z t w = w ++ pushWrites (listOf t) z (latest w Next (root (listOf t
 
 -- all that is planned for the payload at q
 abbrev joinPlan : Memory → ℕ → ℕ → ℕ → List Write → Plan
-joinPlan m q z t w = record { answer = 0; moved = 0; writes = listWrites m z t w ++ freeWrites q z t }
+joinPlan m q z t w = record { answer = 0; moved = 0; early = 0; writes = listWrites m z t w ++ freeWrites q z t }
 
 -- the script plans it
 join-gives : (n c : ℕ) (m : Memory) (q z t : ℕ) (w : List Write) → listOf t < 16 * c → Gives m (seeHead n (listOf t)) (m Next (root (listOf t)))

@@ -36,7 +36,7 @@ pub record TakeChecked (n c p a : ℕ) (m : Memory) (t : Plan) : Type 0 where
   pub busy : Busy (wordOf (m Size (y + s)))
   pub link : m Before (y + s) ≡ y
   pub left : Gives m (leaveScript n c (unlinkWrites k (m Next y) none) y s (keeps (place a y) p)) w
-  pub plan : t ≡ record { answer = 2 * y + place a y; writes = w ++ (padWrites y (place a y) ++ ((Live at 2 * y + place a y ≔ 1) ∷ [])); moved = 0 }
+  pub plan : t ≡ record { answer = 2 * y + place a y; writes = w ++ (padWrites y (place a y) ++ ((Live at 2 * y + place a y ≔ 1) ∷ [])); moved = 0; early = 0 }
 
 -- every block of a list that the search can find is large enough
 fits : (m : Memory) (c u s : ℕ) → 1 ≤ u → 1 ≤ s → listOf s ≡ firstSet (m Mark) (16 * c - startOf u) (startOf u) → u ≤ s

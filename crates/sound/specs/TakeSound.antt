@@ -103,6 +103,7 @@ module _ (n c p a : ℕ) (m : Memory) (f : Lists) (l r : List Block) (s : ℕ) (
     writes = leaveWrites m (unlinkWrites (listOf s) (m Next (total l)) none) (total l) s (keeps (place a (total l)) p)
         ++ (padWrites (total l) (place a (total l)) ++ ((Live at 2 * total l + place a (total l) ≔ 1) ∷ []));
     moved = 0;
+    early = 0;
   }
 
   take-gives : Gives m (takeScript n c p a) the-plan

@@ -34,7 +34,7 @@ stretchWrites a x s m r = leavingOf a (r .behind) ++ leftBehind x (s + r .behind
 
 -- the payload at q stays where it is
 abbrev pub stays : ℕ → List Write → Plan
-stays q w = record { answer = q; writes = w; moved = 0 }
+stays q w = record { answer = q; writes = w; moved = 0; early = 0 }
 
 -- by the kind: nothing is written, or w; or else the call goes on, to the result o
 abbrev pub byKind : ℕ → ℕ → List Write → Result Plan → Result Plan
