@@ -2,8 +2,10 @@
 // returns, stays inside the slices, and does its work or refuses with a number; a refusal changes nothing. What is promised
 // of each is one record, in crates/calls/specs/Promises.antt.
 ghost use mathlib.Core.Path.{_≡_};
+ghost use Prim.Native.Nat.{_+_};
 ghost use lib.ListN.{length as lengthOf};
-ghost use Rattle.tables.specs.Length.{LongEnough};
+ghost use Rattle.bits.specs.Map.{mapWords, lists as listCount};
+ghost use Rattle.tables.specs.Length.{liveLength, LongEnough};
 ghost use Rattle.allocate.specs.Demand.{Demand};
 ghost use Rattle.firmheap.specs.Replies.{taken, done, given, laid};
 ghost use Rattle.firmheap.specs.Contracts.{Allocates, Deallocates, Takes, GivesBack, Initialises, Inserts, Appends};
@@ -49,6 +51,22 @@ pub enum Given {
 enum Laid {
     Grains(usize),
     Refused(u64),
+}
+
+// ---- how long the tables must be
+
+// The words of the table of the lists.
+pub fn lists_length() -> usize
+    ensures { λ r. ⌜ r ≡ mapWords + listCount ⌝ }
+{
+    tables::lists_length()
+}
+
+// The words of the live table, for an arena of so many bytes.
+pub fn live_length(arena: usize) -> usize
+    ensures { λ r. ⌜ r ≡ liveLength arena ⌝ }
+{
+    tables::live_length(arena)
 }
 
 // ---- take
