@@ -3,16 +3,17 @@
 use Prim.Native.Nat.{ℕ, _+_, _*_}
 use native.Mathlib.Omega.{arith}
 use mathlib.Core.Path.{_≡_, refl, ap, sym, _∙_, subst}
-use mathlib.Core.List.{List, [], _∷_}
+use mathlib.Core.List.{List}
 use Rattle.choice.specs.Choice.{eq-case, le-case}
-use Rattle.definition.specs.Blocks.{Block, used, total, _⟨⟩_, room, past, Place, find, payload}
+use Rattle.definition.specs.Blocks.{Block, used, total, room, past}
 use Rattle.definition.specs.Lists.{Found, nothing, found}
-use Rattle.definition.specs.Calls.{Heap, Refusal, noList, Answer, refused, granted, join, place, keeps, takeAt, take, giveBackAt, giveBack, answering, backAfter, elsewhere, down, resizeAt, resize}
-use Rattle.invariants.specs.Order.{Ordered, out, order-split, BlockAt, stands-at, payload-at}
+use Rattle.definition.specs.Calls.{Heap, Refusal, noList, Answer, refused, granted, place, keeps, takeAt, take, answering, backAfter, elsewhere, down, resizeAt, resize}
+use Rattle.invariants.specs.Order.{BlockAt}
 use Rattle.invariants.specs.Moves.{Ok}
 use Rattle.invariants.specs.Placing.{Align}
 use Rattle.invariants.specs.Promises.{sought, take-granted}
 use Rattle.invariants.specs.NotLive.{NotLive, not-live-resize}
+use Rattle.invariants.specs.Live.{before, behind, live-back, live-resize}
 use Rattle.script.specs.Memory.{Memory}
 use Rattle.script.specs.Script.{Script, no, run}
 use Rattle.sound.specs.Sound.{Sound}
@@ -34,27 +35,6 @@ unfolding takeAt
 take-only h p a nothing v e = cc
 take-only h p a (found k x) v e = granted-only _ _ v e
 
-module _ (h : Heap) (x s d : ℕ) (o : Ordered out (h .blocks)) (b : BlockAt x (used s d) 0 (h .blocks)) where
-  -- the blocks before and behind that of a live payload
-  abbrev before : List Block
-  before = stands-at x (used s d) (h .blocks) b .before
-
-  abbrev behind : List Block
-  behind = stands-at x (used s d) (h .blocks) b .behind
-
-  -- which is found by its payload
-  live-found : find payload (2 * x + d) [] (h .blocks) ≡ record { before = before; behind = used s d ∷ behind }
-  live-found =
-      let p = stands-at x (used s d) (h .blocks) b in
-      let i = order-split (p .before) (used s d ∷ p .behind) (subst (Ordered out) (p .whole) o) in
-      ap (λ (A : List Block). find payload (2 * x + d) [] A) (p .whole) ∙ ap (λ (u : ℕ). find payload (2 * u + d) [] (before ⟨⟩ used s d ∷ behind)) (p .place)
-      ∙ payload-at (p .before) (p .behind) s d (i .0) (i .1 .1 .1 .some)
-
-  -- so it is given back
-  live-back : giveBack h (2 * x + d) ≡ granted 0 (join (h .lists) before s behind)
-  unfolding giveBack giveBackAt
-  live-back = ap (λ (p : Place). giveBackAt (h .lists) (p .before) (p .behind)) live-found
-
 module _ (c : ℕ) (h : Heap) (x s d p a : ℕ) (o : Ok c h) (al : Align a) (b : BlockAt x (used s d) 0 (h .blocks)) where
   -- step 4: what is taken is not the block, which is live still
   elsewhere-only : OnlyNoList (elsewhere c h (2 * x + d) p a)
@@ -65,7 +45,7 @@ module _ (c : ℕ) (h : Heap) (x s d p a : ℕ) (o : Ok c h) (al : Align a) (b :
       go (refused u) e = λ v i. take-only h p a (sought c h p a) v (e ∙ i)
       go (granted z g) e =
           let t = take-granted c h p a z g o al e in
-          subst (λ (w : Answer). OnlyNoList (answering z w)) (sym (live-back g x s d (t .ok .order) (t .kept x (used s d) tt b))) (granted-only z _)
+          subst (λ (w : Answer). OnlyNoList (answering z w)) (sym (live-back g x s d (t .kept x (used s d) tt b) (t .ok .order))) (granted-only z _)
 
   -- step 3, or else step 4
   down-only : (l r : List Block) → OnlyNoList (down c h (2 * x + d) p a l s r)
@@ -75,10 +55,10 @@ module _ (c : ℕ) (h : Heap) (x s d p a : ℕ) (o : Ok c h) (al : Align a) (b :
 
   -- all four steps
   resize-only : OnlyNoList (resize c h (2 * x + d) p a)
-  unfolding resize resizeAt
-  resize-only = subst (λ (w : Place). OnlyNoList (resizeAt c h (2 * x + d) p a (w .before) (w .behind))) (sym (live-found h x s d (o .order) b))
+  unfolding resizeAt
+  resize-only = subst OnlyNoList (sym (live-resize h x s d b (o .order) c p a))
       (eq-case OnlyNoList (keeps d p) s _ _ (λ _. granted-only _ _)
-      (λ _. le-case OnlyNoList (keeps d p) (s + room (behind h x s d (o .order) b)) _ _ (λ _. granted-only _ _) (λ _. down-only (before h x s d (o .order) b) (behind h x s d (o .order) b))))
+      (λ _. le-case OnlyNoList (keeps d p) (s + room (behind h x s d b)) _ _ (λ _. granted-only _ _) (λ _. down-only (before h x s d b) (behind h x s d b))))
 
 -- ---- in memory
 
