@@ -1,5 +1,5 @@
--- Slices that agree in all tables and in some bytes of the arena. What is stored doesn't hang on what stood there, so the
--- same writes, stored in both, keep that.
+-- What is stored doesn't hang on what stood there: where two arenas agree in a byte, or two sets of slices in their tables,
+-- they still do when the same writes are stored in both.
 use Prim.Native.Nat.{ℕ, zero, suc, _+_, _/_, _%_, _≤_, _<_}
 use native.Mathlib.Omega.{arith}
 use mathlib.Core.Path.{_≡_, refl, ap, sym, _∙_}
@@ -12,7 +12,7 @@ use Rattle.word.specs.Number.{puts}
 use Rattle.word.specs.Word.{putAt}
 use Rattle.script.specs.Memory.{Before, Next, Prev, none, Write}
 use Rattle.slices.specs.Arena.{putSize, putLink}
-use Rattle.slices.specs.Slices.{Slices, storeAt, store, stores}
+use Rattle.slices.specs.Slices.{Slices, withArena, storeAt, store, stores}
 use Rattle.slices.specs.Fields.{by-field}
 
 -- ---- the arena
@@ -59,29 +59,44 @@ module _ (j : ℕ) where
 
 -- ---- the slices
 
--- T is S, but for bytes of the arena other than j
-pub record Alike (j : ℕ) (S T : Slices) : Type 0 where
-  pub arena : SameByte j (S .arena) (T .arena)
+module _ (w : ℕ) where
+  -- a write, stored in two arenas
+  store-byte : (j : ℕ) (S T : Slices) (x : Write) → SameByte j (S .arena) (T .arena) → SameByte j (store w S x .arena) (store w T x .arena)
+  store-byte j S T x s = by-field (λ f. SameByte j (storeAt w S f p v .arena) (storeAt w T f p v .arena))
+      (size-same j w p v (S .arena) (T .arena) s)
+      (link-same j w Before p v (S .arena) (T .arena) s)
+      (low-or-high j (suc none) p (S .arena) (T .arena) _ _ s (link-same j w Next p v (S .arena) (T .arena) s))
+      (link-same j w Prev p v (S .arena) (T .arena) s)
+      s s s (λ f. s)
+      (x .field)
+    where
+      p : ℕ
+      p = x .place
+
+      v : ℕ
+      v = x .value
+
+  -- all of them: the arenas agree where they agreed
+  pub stores-same-byte : (j : ℕ) (l : List Write) (S T : Slices) → SameByte j (S .arena) (T .arena) → SameByte j (stores w S l .arena) (stores w T l .arena)
+  stores-same-byte j [] S T s = s
+  stores-same-byte j (x ∷ l) S T s = stores-same-byte j l (store w S x) (store w T x) (store-byte j S T x s)
+
+-- T has the tables of S
+pub record SameTables (S T : Slices) : Type 0 where
   pub lists : T .lists ≡ S .lists
   pub live : T .live ≡ S .live
   pub regions : T .regions ≡ S .regions
 
-module _ (w j : ℕ) where
-  -- a write stored in both
-  store-alike : (S T : Slices) (x : Write) → Alike j S T → Alike j (store w S x) (store w T x)
-  store-alike S T x k = by-field (λ f. Alike j (storeAt w S f p v) (storeAt w T f p v))
-      (in-arena (size-same j w p v (S .arena) (T .arena) (k .arena)))
-      (in-arena (link-same j w Before p v (S .arena) (T .arena) (k .arena)))
-      (record {
-        arena = low-or-high j (suc none) p (S .arena) (T .arena) _ _ (k .arena) (link-same j w Next p v (S .arena) (T .arena) (k .arena));
-        lists = rw (k .lists);
-        live = k .live;
-        regions = k .regions;
-      })
-      (in-arena (link-same j w Prev p v (S .arena) (T .arena) (k .arena)))
-      (record { arena = k .arena; lists = rw (k .lists); live = k .live; regions = k .regions })
-      (record { arena = k .arena; lists = k .lists; live = rw (k .live); regions = k .regions })
-      (record { arena = k .arena; lists = k .lists; live = k .live; regions = rw (k .regions) })
+module _ (w : ℕ) where
+  -- a write, stored in both
+  store-tables : (S T : Slices) (x : Write) → SameTables S T → SameTables (store w S x) (store w T x)
+  store-tables S T x k = by-field (λ f. SameTables (storeAt w S f p v) (storeAt w T f p v))
+      in-arena in-arena
+      (record { lists = rw (k .lists); live = k .live; regions = k .regions })
+      in-arena
+      (record { lists = rw (k .lists); live = k .live; regions = k .regions })
+      (record { lists = k .lists; live = rw (k .live); regions = k .regions })
+      (record { lists = k .lists; live = k .live; regions = rw (k .regions) })
       (λ f. k)
       (x .field)
     where
@@ -91,11 +106,10 @@ module _ (w j : ℕ) where
       v : ℕ
       v = x .value
 
-      in-arena : {a b : List ℕ} → SameByte j a b
-          → Alike j (record { arena = a; lists = S .lists; live = S .live; regions = S .regions }) (record { arena = b; lists = T .lists; live = T .live; regions = T .regions })
-      in-arena s = record { arena = s; lists = k .lists; live = k .live; regions = k .regions }
+      in-arena : {a b : List ℕ} → SameTables (withArena S a) (withArena T b)
+      in-arena = record { lists = k .lists; live = k .live; regions = k .regions }
 
-  -- all of them
-  pub stores-alike : (l : List Write) (S T : Slices) → Alike j S T → Alike j (stores w S l) (stores w T l)
-  stores-alike [] S T k = k
-  stores-alike (x ∷ l) S T k = stores-alike l (store w S x) (store w T x) (store-alike S T x k)
+  -- all of them: the tables stay the same
+  pub stores-same-tables : (l : List Write) (S T : Slices) → SameTables S T → SameTables (stores w S l) (stores w T l)
+  stores-same-tables [] S T k = k
+  stores-same-tables (x ∷ l) S T k = stores-same-tables l (store w S x) (store w T x) (store-tables S T x k)

@@ -9,12 +9,12 @@ use mathlib.Core.Logic.{inl, inr}
 use lib.ListN.{length, getD, take, drop, take-append-drop}
 use lib.Seq.{take-at, drop-at}
 use Rattle.word.specs.Number.{Apart}
-use Rattle.copy.specs.Moved.{moved, moved-kept, moved-arrived, moved-length, moved-none, moved-only}
+use Rattle.copy.specs.Moved.{Moved, moved, moved-kept, moved-arrived, moved-length, moved-none, moved-nowhere, moved-only}
 use Rattle.script.specs.Memory.{Write}
 use Rattle.sound.specs.Plans.{Plan}
 use Rattle.slices.specs.Slices.{Slices, withArena, stores}
 use Rattle.slices.specs.Kept.{Lengths, stores-lengths, stores-append, AllOutside, stores-byte}
-use Rattle.carry.specs.Alike.{Alike, stores-alike}
+use Rattle.carry.specs.Alike.{SameByte, stores-same-byte, SameTables, stores-same-tables}
 
 -- u half grains at q are moved to z
 abbrev pub shifted : Slices → ℕ → ℕ → ℕ → Slices
@@ -45,15 +45,22 @@ carried-parts S q p v w e f =
     let b : laterWrites p ≡ w = ap (drop (p .early)) e ∙ drop-at v w (p .early) (sym f) in
     rw (a, b)
 
--- nothing is moved
-pub carried-still : (S : Slices) (q : ℕ) (p : Plan) → p .moved ≡ 0 → carried S q p ≡ stores 8 S (p .writes)
-carried-still S q p e =
+-- where a move changes nothing, all writes are stored
+unmoved : (S : Slices) (q : ℕ) (p : Plan) → ((a : List ℕ) → Moved a (16 * q) (16 * p .answer) (16 * p .moved) a) → carried S q p ≡ stores 8 S (p .writes)
+unmoved S q p f =
     let T = stores 8 S (firstWrites p) in
-    let n : 16 * p .moved ≡ 0 = omega arith in
-    let k : moved (T .arena) (16 * q) (16 * p .answer) (16 * p .moved) ≡ T .arena = sym (moved-only (T .arena) (16 * q) (16 * p .answer) (16 * p .moved) (T .arena) (moved-none (T .arena) _ _ _ n)) in
-    ap (λ (a : List ℕ). stores 8 (withArena T a) (laterWrites p)) k
+    let k = moved-only (T .arena) (16 * q) (16 * p .answer) (16 * p .moved) (T .arena) (f (T .arena)) in
+    ap (λ (a : List ℕ). stores 8 (withArena T a) (laterWrites p)) (sym k)
     ∙ sym (stores-append 8 S (firstWrites p) (laterWrites p))
     ∙ ap (stores 8 S) (take-append-drop (p .early) (p .writes))
+
+-- nothing is moved
+pub carried-still : (S : Slices) (q : ℕ) (p : Plan) → p .moved ≡ 0 → carried S q p ≡ stores 8 S (p .writes)
+carried-still S q p e = unmoved S q p (λ a. moved-none a _ _ _ (omega arith))
+
+-- the payload stays where it is
+pub carried-same : (S : Slices) (q : ℕ) (p : Plan) → p .answer ≡ q → carried S q p ≡ stores 8 S (p .writes)
+carried-same S q p e = unmoved S q p (λ a. moved-nowhere a _ _ _ (omega arith))
 
 -- ---- what stays
 
@@ -72,16 +79,19 @@ module _ (S : Slices) (q : ℕ) (p : Plan) where
       let b = stores-lengths 8 between (laterWrites p) in
       record { arena = b .arena ∙ m ∙ a .arena; lists = b .lists ∙ a .lists; live = b .live ∙ a .live; regions = b .regions ∙ a .regions }
 
-  -- what is stored otherwise is the same, but for the bytes of the new payload
-  pub carried-alike : (j : ℕ) → NotMoved p j → Alike j (stores 8 S (p .writes)) (carried S q p)
-  carried-alike j n =
-      subst (λ (T : Slices). Alike j T (carried S q p)) (sym (stores-append 8 S (firstWrites p) (laterWrites p)) ∙ ap (stores 8 S) (take-append-drop (p .early) (p .writes)))
-      (stores-alike 8 j (laterWrites p) begun between (record {
-        arena = (moved-length (begun .arena) _ _ _, moved-kept (begun .arena) (16 * q) (16 * p .answer) (16 * p .moved) j n);
-        lists = refl;
-        live = refl;
-        regions = refl;
-      }))
+  all-stored : stores 8 begun (laterWrites p) ≡ stores 8 S (p .writes)
+  all-stored = sym (stores-append 8 S (firstWrites p) (laterWrites p)) ∙ ap (stores 8 S) (take-append-drop (p .early) (p .writes))
+
+  -- the tables are those with all writes stored
+  pub carried-tables : SameTables (stores 8 S (p .writes)) (carried S q p)
+  carried-tables = subst (λ (T : Slices). SameTables T (carried S q p)) all-stored
+      (stores-same-tables 8 (laterWrites p) begun between (record { lists = refl; live = refl; regions = refl }))
+
+  -- and so is the arena, but for the bytes of the new payload
+  pub carried-byte : (j : ℕ) → NotMoved p j → SameByte j (stores 8 S (p .writes) .arena) (carried S q p .arena)
+  carried-byte j n = subst (λ (T : Slices). SameByte j (T .arena) (carried S q p .arena)) all-stored
+      (stores-same-byte 8 j (laterWrites p) begun between
+      (moved-length (begun .arena) _ _ _, moved-kept (begun .arena) (16 * q) (16 * p .answer) (16 * p .moved) j n))
 
   -- ---- what arrives
 
@@ -96,4 +106,4 @@ module _ (S : Slices) (q : ℕ) (p : Plan) where
 
   -- a byte that is not moved to, and that no write is about, stays
   pub carried-kept : (j : ℕ) → NotMoved p j → AllOutside 8 j (p .writes) → getD (carried S q p .arena) j 0 ≡ getD (S .arena) j 0
-  carried-kept j n f = carried-alike j n .arena .1 ∙ stores-byte 8 S (p .writes) j f
+  carried-kept j n f = carried-byte j n .1 ∙ stores-byte 8 S (p .writes) j f
