@@ -68,16 +68,20 @@ module _ (S : Slices) (q : ℕ) (p : Plan) where
   abbrev begun : Slices
   begun = stores 8 S (firstWrites p)
 
-  abbrev between : Slices
+  abbrev pub between : Slices
   between = shifted begun q (p .answer) (p .moved)
 
   -- all lengths
+  pub between-lengths : Lengths S between
+  between-lengths =
+      let a = stores-lengths 8 S (firstWrites p) in
+      record { arena = moved-length (begun .arena) (16 * q) (16 * p .answer) (16 * p .moved) ∙ a .arena; lists = a .lists; live = a .live; regions = a .regions }
+
   pub carried-lengths : Lengths S (carried S q p)
   carried-lengths =
-      let a = stores-lengths 8 S (firstWrites p) in
-      let m = moved-length (begun .arena) (16 * q) (16 * p .answer) (16 * p .moved) in
+      let a = between-lengths in
       let b = stores-lengths 8 between (laterWrites p) in
-      record { arena = b .arena ∙ m ∙ a .arena; lists = b .lists ∙ a .lists; live = b .live ∙ a .live; regions = b .regions ∙ a .regions }
+      record { arena = b .arena ∙ a .arena; lists = b .lists ∙ a .lists; live = b .live ∙ a .live; regions = b .regions ∙ a .regions }
 
   all-stored : stores 8 begun (laterWrites p) ≡ stores 8 S (p .writes)
   all-stored = sym (stores-append 8 S (firstWrites p) (laterWrites p)) ∙ ap (stores 8 S) (take-append-drop (p .early) (p .writes))
