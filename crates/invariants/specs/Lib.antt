@@ -11,6 +11,7 @@ pub mod Promises
 pub mod NotLive
 pub mod Live
 pub mod Resized
+pub mod Cramped
 pub mod Gaps
 pub mod Regions
 pub mod Stays

@@ -2,7 +2,7 @@
 -- does what the definition says; none is refused with 5; and damage that it doesn't read stays where it is.
 use Prim.Native.Nat.{ℕ, _+_, _*_, _≤_, _<_}
 use native.Mathlib.Omega.{arith}
-use mathlib.Core.Path.{_≡_, refl, sym, subst}
+use mathlib.Core.Path.{_≡_, sym, subst}
 use mathlib.Core.List.{List, []}
 use Rattle.class.specs.Class.{startOf}
 use Rattle.definition.specs.Blocks.{Block, used}
@@ -17,7 +17,7 @@ use Rattle.script.specs.Locality.{Reads, DiffersIn, Contained, contained}
 use Rattle.sound.specs.Sound.{Sound}
 use Rattle.sound.specs.Plans.{Plan, takeScript, giveBackScript, resizeScript}
 use Rattle.sound.specs.RegionPlan.{regionScript}
-use Rattle.sound.specs.Meets.{Grants, Meets}
+use Rattle.sound.specs.Meets.{Grants, Meets, refused-1}
 use Rattle.sound.specs.SeenBeside.{Here}
 use Rattle.sound.specs.TakeSound.{take-meets}
 use Rattle.sound.specs.ReturnSound.{give-back-grants, giveBack-meets}
@@ -79,13 +79,6 @@ module _ (n c most : ℕ) (m : Memory) (h : Heap) (o : Sound n c m h) (big : 1 �
   never-5 = meets-never-5 n c m (scriptOf n c most k) (answerOf c k h) call-meets
 
 -- ---- T6: when a call is refused
-
--- a script that is refused with 1 has found no list
-refused-1 : (n c : ℕ) (m : Memory) (s : Script Plan) (w : Answer) → Meets n c m s w → run m s ≡ no 1 → w ≡ refused noList
-refused-1 n c m s (refused noList) k e = refl
-refused-1 n c m s (refused notLive) k e = let z : _≡_ {A = ℕ} 3 1 = cc in absurd (omega arith)
-refused-1 n c m s (refused noRegion) k e = let z : _≡_ {A = ℕ} 4 1 = cc in absurd (omega arith)
-refused-1 n c m s (granted v g) k e = let i = k .gives in let z : _≡_ {A = ℕ} 0 1 = cc in absurd (omega arith)
 
 -- what is granted is not refused
 granted-not-refused : {n c : ℕ} {m : Memory} {s : Script Plan} {v i : ℕ} {g : Heap} → Grants n c m s v g → run m s ≡ no i → ⊥

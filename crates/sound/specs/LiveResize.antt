@@ -1,24 +1,26 @@
--- T6 for resize: the resize of a live payload is refused for want of a list alone, and one of a payload that is not live
--- always, with 3.
-use Prim.Native.Nat.{ℕ, _+_, _*_}
+-- T6 for resize: the resize of a live payload is refused for want of a list alone, with 1, and exactly when there is no
+-- room for it; one of a payload that is not live always, with 3.
+use Prim.Native.Nat.{ℕ, _+_, _*_, _≤_, _<_}
 use native.Mathlib.Omega.{arith}
 use mathlib.Core.Path.{_≡_, refl, ap, sym, _∙_, subst}
-use mathlib.Core.List.{List}
+use mathlib.Core.List.{List, []}
 use Rattle.choice.specs.Choice.{eq-case, le-case}
+use Rattle.class.specs.Class.{startOf}
 use Rattle.definition.specs.Blocks.{Block, used, total, room, past}
 use Rattle.definition.specs.Lists.{Found, nothing, found}
-use Rattle.definition.specs.Calls.{Heap, Refusal, noList, Answer, refused, granted, place, keeps, takeAt, take, answering, backAfter, elsewhere, down, resizeAt, resize}
+use Rattle.definition.specs.Calls.{Heap, Refusal, noList, Answer, refused, granted, wanted, place, keeps, takeAt, take, answering, backAfter, elsewhere, down, resizeAt, resize}
 use Rattle.invariants.specs.Order.{BlockAt}
 use Rattle.invariants.specs.Moves.{Ok}
 use Rattle.invariants.specs.Placing.{Align}
-use Rattle.invariants.specs.Promises.{sought, take-granted}
+use Rattle.invariants.specs.Promises.{sought, refused-exactly, take-granted}
 use Rattle.invariants.specs.NotLive.{NotLive, not-live-resize}
 use Rattle.invariants.specs.Live.{before, behind, live-back, live-resize}
+use Rattle.invariants.specs.Cramped.{Cramped, cramped-exactly}
 use Rattle.script.specs.Memory.{Memory}
 use Rattle.script.specs.Script.{Script, no, run}
 use Rattle.sound.specs.Sound.{Sound}
 use Rattle.sound.specs.Plans.{Plan, resizeScript}
-use Rattle.sound.specs.Meets.{number, Meets}
+use Rattle.sound.specs.Meets.{number, Meets, refused-1}
 use Rattle.sound.specs.ResizeSound.{resize-meets}
 
 -- an answer that is refused for want of a list, if at all
@@ -79,3 +81,16 @@ module _ (n c q p a : ℕ) (m : Memory) (h : Heap) (al : Align a) (o : Sound n c
     (λ k x s d b e. omega (arith, live-resize-refused x s d 3 b e k)),
     (λ f. subst (Meets n c m (resizeScript n c q p a)) (not-live-resize c h q p a f) (resize-meets n c p a m h al o q)),
   )
+
+  -- and with 1, of a live payload, exactly when its block has no room, neither in place nor downwards, and every list from
+  -- the search start on is empty
+  pub live-resize-refused-exactly : (x s d : ℕ) (b : BlockAt x (used s d) 0 (h .blocks)) → q ≡ 2 * x + d
+      → (run m (resizeScript n c q p a) ≡ no 1 → Cramped h x s d p a b × ((j : ℕ) → startOf (wanted p a) ≤ j → j < 16 * c → h .lists j ≡ []))
+      × (Cramped h x s d p a b × ((j : ℕ) → startOf (wanted p a) ≤ j → j < 16 * c → h .lists j ≡ []) → run m (resizeScript n c q p a) ≡ no 1)
+  live-resize-refused-exactly x s d b e =
+      let k : Meets n c m (resizeScript n c q p a) (resize c h (2 * x + d) p a) = subst (λ (u : ℕ). Meets n c m (resizeScript n c q p a) (resize c h u p a)) e (resize-meets n c p a m h al o q) in
+      let i = cramped-exactly c h x s d p a (o .heap) al b in
+      let f = refused-exactly c h p a in (
+        (λ r. let t = i .0 (refused-1 n c m (resizeScript n c q p a) (resize c h (2 * x + d) p a) k r) in (t .0, f .0 (t .1))),
+        (λ t. subst (Meets n c m (resizeScript n c q p a)) (i .1 (t .0, f .1 (t .1))) k),
+      )
