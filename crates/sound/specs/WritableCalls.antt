@@ -1,5 +1,5 @@
--- Take and return write only what can be stored, on any memory that a decoder may show; and a take's answer is inside the
--- arena, behind a header.
+-- Take and return write only what can be stored, on any memory that a decoder may show; and what a take hands out is inside
+-- the arena, behind a header.
 use Prim.Native.Nat.{ℕ, suc, _+_, _-_, _*_, _≤_, _<_}
 use native.Mathlib.Omega.{arith}
 use mathlib.Core.Path.{_≡_, refl, sym, subst}
@@ -19,6 +19,10 @@ use Rattle.sound.specs.Writable.{Fits, Decoded, Link, freeSize, atSize, 
 
 -- ---- take
 
+-- a payload at q whose place was counted, for the alignment a, from some block's start
+abbrev pub Counted : ℕ → ℕ → Type 0
+Counted a q = (y : ℕ) × (q ≡ 2 * y + place a y)
+
 module _ (n c p a : ℕ) (m : Memory) (t : Plan) (d : Decoded n m) (al : Align a) (g : Gives m (takeScript n c p a) t) where
   -- the payload is in its block, and the block in the arena
   record Placed (y s e : ℕ) : Type 0 where
@@ -26,7 +30,7 @@ module _ (n c p a : ℕ) (m : Memory) (t : Plan) (d : Decoded n m) (al : Align a
     some : 1 ≤ e
     keeps-one : 1 ≤ keeps e p
     within : keeps e p ≤ s
-    low : e ≤ 2 * s
+    long : e + p ≤ 2 * s
 
   -- the block that it gets
   seen : TakeChecked n c p a m t
@@ -42,7 +46,7 @@ module _ (n c p a : ℕ) (m : Memory) (t : Plan) (d : Decoded n m) (al : Align a
         some = place-some a y h;
         keeps-one = keeps-some (place a y) p (place-some a y h);
         within = w;
-        low = omega (arith, keeps-holds (place a y) p);
+        long = omega (arith, keeps-holds (place a y) p);
       }
 
   -- every write of a take can be stored
@@ -56,13 +60,13 @@ module _ (n c p a : ℕ) (m : Memory) (t : Plan) (d : Decoded n m) (al : Align a
       (unlink-writable n c (seen .k) (m Next y) none (seen .listed) (⊎-elim (λ i. inl i) (λ i. inr (i .0)) (seen .back)) (inl refl))
       (placed .keeps-one) (placed .within) (placed .inside) (seen .left))
       (all-append n c (padWrites y e) _
-      (pad-writable n c y e (seen .s) (placed .some) (placed .low) (placed .inside))
-      (atLive {q = 2 * y + e} (omega (arith, placed .low, placed .inside)) (omega arith), tt)))
+      (pad-writable n c y e (seen .s) (placed .some) (omega (arith, placed .long)) (placed .inside))
+      (atLive {q = 2 * y + e} (omega (arith, placed .long, placed .inside)) (omega arith), tt)))
 
-  -- and what it answers is a payload inside the arena
-  pub take-answer : (1 ≤ t .answer) × (t .answer ≤ 2 * n)
-  take-answer = subst (λ (u : Plan). (1 ≤ u .answer) × (u .answer ≤ 2 * n)) (sym (seen .plan))
-      (omega (arith, placed .some), omega (arith, placed .low, placed .inside))
+  -- and what it answers is a payload at its place, with all its half grains inside the arena
+  pub take-answer : (1 ≤ t .answer) × (t .answer + p ≤ 2 * n) × Counted a (t .answer)
+  take-answer = subst (λ (u : Plan). (1 ≤ u .answer) × (u .answer + p ≤ 2 * n) × Counted a (u .answer)) (sym (seen .plan))
+      (omega (arith, placed .some), omega (arith, placed .long, placed .inside), (seen .y, refl))
 
 -- ---- what stands beside a used block
 
