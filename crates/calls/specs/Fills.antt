@@ -2,70 +2,46 @@
 -- heap as before.
 use Prim.Native.Nat.{ℕ, _+_, _*_, _<_}
 use native.Mathlib.Omega.{arith}
-use mathlib.Core.Path.{_≡_, refl, ap, sym, subst}
+use mathlib.Core.Path.{_≡_, ap, sym, subst}
 use mathlib.Core.List.{List}
 use lib.ListN.{length, getD}
 use Rattle.word.specs.Word.{wordAt}
 use Rattle.definition.specs.Blocks.{Block, used}
 use Rattle.definition.specs.Calls.{Heap}
 use Rattle.invariants.specs.Order.{BlockAt}
-use Rattle.script.specs.Memory.{Size, Before, Next, Prev}
 use Rattle.sound.specs.Sound.{Sound}
 use Rattle.sound.specs.Filled.{NotPayload, Filled, filled-sound}
 use Rattle.slices.specs.Decode.{grains-keep}
-use Rattle.slices.specs.Arena.{sizeAt, linkAt}
-use Rattle.slices.specs.Heads.{nextAt}
 use Rattle.slices.specs.Slices.{Slices, memoryOf}
-use Rattle.slices.specs.Fields.{by-field}
 use Rattle.slices.specs.Kept.{Lengths}
 use Rattle.copy.specs.Words.{num-same}
+use Rattle.carry.specs.Alike.{SameTables}
+use Rattle.carry.specs.Words.{word, field-word}
 use Rattle.calls.specs.Performs.{grainsOf, Stand}
-use Rattle.calls.specs.Untouched.{InPayloadBytes}
+use Rattle.calls.specs.Payload.{InPayloadBytes}
 
 -- the caller wrote into payloads that are live in h: all tables and every other byte are as they were
 pub record Fills (h : Heap) (S T : Slices) : Type 0 where
   pub size : length (T .arena) ≡ length (S .arena)
   pub bytes : (j : ℕ) → ((y s d : ℕ) → BlockAt y (used s d) 0 (h .blocks) → InPayloadBytes j y s d → ⊥) → getD (T .arena) j 0 ≡ getD (S .arena) j 0
-  pub lists : T .lists ≡ S .lists
-  pub live : T .live ≡ S .live
-  pub regions : T .regions ≡ S .regions
+  pub tables : SameTables S T
 
 module _ (h : Heap) (S T : Slices) (k : Fills h S T) where
   pub fills-lengths : Lengths S T
-  fills-lengths = record { arena = k .size; lists = ap length (k .lists); live = ap length (k .live); regions = ap length (k .regions) }
+  fills-lengths = record { arena = k .size; lists = ap length (k .tables .lists); live = ap length (k .tables .live); regions = ap length (k .tables .regions) }
 
   same-grains : grainsOf T ≡ grainsOf S
   same-grains = grains-keep 8 (S .arena) (T .arena) (k .size)
 
   -- a word that is no payload's is as it was
-  same-word : (f x : ℕ) → NotPayload h f x → wordAt 8 (T .arena) (4 * x + f) ≡ wordAt 8 (S .arena) (4 * x + f)
+  same-word : (f x : ℕ) → NotPayload h f x → word f x (T .arena) ≡ word f x (S .arena)
   unfolding wordAt
   same-word f x n = num-same 8 (T .arena) (8 * (4 * x + f)) (S .arena) (8 * (4 * x + f))
       (λ i q. k .bytes (8 * (4 * x + f) + i) (λ y s d b j. n y s d b (omega (arith, j .0), omega (arith, j .1))))
 
-  same-link : (f out x : ℕ) → NotPayload h f x → linkAt 8 (T .arena) f out x ≡ linkAt 8 (S .arena) f out x
-  unfolding linkAt
-  same-link f out x n = rw (same-grains, same-word f x n)
-
-  same-size : (x : ℕ) → NotPayload h Size x → sizeAt 8 (T .arena) x ≡ sizeAt 8 (S .arena) x
-  unfolding sizeAt
-  same-size x n =
-      let z : 4 * x + 0 ≡ 4 * x = omega arith in
-      rw (same-grains, rw z at (same-word Size x n))
-
-  same-next : (x : ℕ) → NotPayload h Next x → nextAt 8 (T .arena) (T .lists) x ≡ nextAt 8 (S .arena) (S .lists) x
-  unfolding nextAt
-  same-next x n = rw (same-grains, k .lists, same-link Next _ x n)
-
+  -- and so is its field
   same-field : (f x : ℕ) → (f < 4 → NotPayload h f x) → memoryOf 8 T f x ≡ memoryOf 8 S f x
-  unfolding memoryOf
-  same-field f x = by-field (λ g. (g < 4 → NotPayload h g x) → memoryOf 8 T g x ≡ memoryOf 8 S g x)
-      (λ n. same-size x (n (omega arith)))
-      (λ n. same-link Before _ x (n (omega arith)))
-      (λ n. same-next x (n (omega arith)))
-      (λ n. same-link Prev _ x (n (omega arith)))
-      (λ _. rw (k .lists)) (λ _. rw (k .live)) (λ _. rw (k .regions)) (λ g _. refl)
-      f
+  same-field f x n = field-word S T (k .size) (k .tables) f x (λ i. same-word f x (n i))
 
   filled : Filled h (memoryOf 8 S) (memoryOf 8 T)
   filled = record { arena = λ f x l n. same-field f x (λ _. n); tables = λ f x l. same-field f x (λ i. absurd (omega arith)) }
@@ -79,7 +55,5 @@ pub fills-as : (h g : Heap) (S T : Slices) → h .blocks ≡ g .blocks → Fills
 fills-as h g S T e k = record {
   size = k .size;
   bytes = λ j n. k .bytes j (λ y s d b i. n y s d (subst (λ (l : List Block). BlockAt y (used s d) 0 l) (sym e) b) i);
-  lists = k .lists;
-  live = k .live;
-  regions = k .regions;
+  tables = k .tables;
 }

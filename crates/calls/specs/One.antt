@@ -5,19 +5,21 @@ use native.Mathlib.Omega.{arith}
 use mathlib.Core.Path.{_≡_, refl, ap, sym, _∙_, subst}
 use mathlib.Core.List.{List}
 use Rattle.definition.specs.Calls.{Heap}
-use Rattle.sound.specs.Calls.{Call, Return, answerOf}
+use Rattle.definition.specs.Units.{halves, multiple}
+use Rattle.sound.specs.Calls.{Call, Return, Resize, answerOf}
 use Rattle.sound.specs.Runs.{Reply, yes, not, said, left}
-use Rattle.calls.specs.Bytes.{ByteCall, bytes, Wrong, range, unsuited, unkind, Asks, take, back, give, follow, inBytes}
+use Rattle.calls.specs.Bytes.{ByteCall, bytes, Wrong, range, unsuited, unkind, resize-range, resize-unsuited, resize-unkind, Asks, take, back, resize, give, follow, inBytes}
 use Rattle.script.specs.Script.{Result, ok, no}
 use Rattle.sound.specs.Plans.{Plan}
-use Rattle.slices.specs.Slices.{Slices, stores}
-use Rattle.calls.specs.Performs.{Inside, grainsOf, outcome, Early, short, outside, Goes, Performs, early, refused, granted, Defines}
+use Rattle.slices.specs.Slices.{Slices}
+use Rattle.calls.specs.Performs.{Inside, grainsOf, outcome, Early, short, outside, Goes, stored, Performs, early, refused, granted, Defines}
 use Rattle.calls.specs.Runs.{DefinesAll}
 
 -- a call asks for one thing
 pub asks-one : (k : ByteCall) (K L : Call) → Asks k K → Asks k L → K ≡ L
 asks-one k K L (take r) (take s) = refl
 asks-one k K L (back r) (back s) = ap Return (r .number ∙ sym (s .number))
+asks-one k K L (resize {n = n} {a = a} r s) (resize u v) = ap (λ (q : ℕ). Resize q (halves 16 n) (multiple 16 a)) (s .number ∙ sym (v .number))
 asks-one k K L give give = refl
 asks-one k K L follow follow = refl
 
@@ -26,6 +28,9 @@ pub asks-right : (k : ByteCall) (K : Call) (i : ℕ) → Asks k K → Wrong k i 
 asks-right k K i (take r) (range n) = n r
 asks-right k K i (back s) (unsuited n) = n (s .suits)
 asks-right k K i (back s) (unkind u n) = n (s .kind)
+asks-right k K i (resize r s) (resize-range n) = n r
+asks-right k K i (resize r s) (resize-unsuited u n) = n (s .suits)
+asks-right k K i (resize r s) (resize-unkind u v n) = n (s .kind)
 
 -- in one way
 wrong-one : (k : ByteCall) (i j : ℕ) → Wrong k i → Wrong k j → i ≡ j
@@ -34,6 +39,15 @@ wrong-one k i j (unsuited n) (unsuited m) = refl
 wrong-one k i j (unsuited n) (unkind u m) = absurd (n u)
 wrong-one k i j (unkind u n) (unsuited m) = absurd (m u)
 wrong-one k i j (unkind u n) (unkind v m) = refl
+wrong-one k i j (resize-range n) (resize-range m) = refl
+wrong-one k i j (resize-range n) (resize-unsuited u m) = refl
+wrong-one k i j (resize-range n) (resize-unkind u v m) = absurd (n u)
+wrong-one k i j (resize-unsuited u n) (resize-range m) = refl
+wrong-one k i j (resize-unsuited u n) (resize-unsuited v m) = refl
+wrong-one k i j (resize-unsuited u n) (resize-unkind v w m) = absurd (n w)
+wrong-one k i j (resize-unkind u v n) (resize-range m) = absurd (m u)
+wrong-one k i j (resize-unkind u v n) (resize-unsuited w m) = absurd (m v)
+wrong-one k i j (resize-unkind u v n) (resize-unkind w x m) = refl
 
 -- so the definition has one answer
 pub defines-one : (h : Heap) (k : ByteCall) (r s : Reply) (f g : Heap) → Defines h k r f → Defines h k s g → (r ≡ s) × (f ≡ g)
@@ -94,4 +108,4 @@ module _ (S : Slices) (k : ByteCall) where
   performs-one r s T U (granted K p a e) (granted L q b f) =
       let z = same-outcome K L (ok p) (ok q) a b e f in
       let u : p ≡ q = cc in
-      (ap (λ (v : Plan). yes (bytes k (v .answer))) u, ap (λ (v : Plan). stores 8 S (v .writes)) u)
+      (ap (λ (v : Plan). yes (bytes k (v .answer))) u, ap (stored S K) u ∙ ap (λ (M : Call). stored S M q) (asks-one k K L (a .asks) (b .asks)))

@@ -9,26 +9,29 @@ use Rattle.definition.specs.Blocks.{used, last}
 use Rattle.definition.specs.Calls.{Heap, Answer}
 use Rattle.invariants.specs.Order.{at-end, at-whole, out}
 use Rattle.invariants.specs.InPiece.{in-piece}
-use Rattle.invariants.specs.NotLive.{NotLive, not-live-back}
+use Rattle.invariants.specs.NotLive.{NotLive, not-live-back, not-live-resize}
 use Rattle.script.specs.Memory.{Memory, Write}
 use Rattle.script.specs.Script.{Result, ok, no}
 use Rattle.sound.specs.Plans.{Plan}
 use Rattle.sound.specs.Sound.{Sound}
-use Rattle.sound.specs.Calls.{Call, Return, scriptOf, answerOf, Fair, call-meets}
+use Rattle.sound.specs.Calls.{Call, Take, Return, Resize, Give, Append, scriptOf, answerOf, Fair, call-meets}
 use Rattle.sound.specs.Runs.{Reply, yes, not, said, left, reply, written, one, Aligned}
 use Rattle.slices.specs.Decode.{grains-keep, wide-8}
 use Rattle.slices.specs.Slices.{Slices, memoryOf, memory-table, stores}
 use Rattle.slices.specs.Kept.{stores-lengths}
 use Rattle.slices.specs.Stored.{sound-stored}
+use Rattle.definition.specs.Units.{halves, multiple}
 use Rattle.request.specs.Alignment.{multiple-align}
-use Rattle.calls.specs.Bytes.{ByteCall, allocate, deallocate, insert, append, Asks, take, back, give, follow, bytes, inBytes}
-use Rattle.calls.specs.Performs.{Long, Inside, grainsOf, mostOf, outcome, Early, short, wrong, outside, Performs, early, refused, granted, Defines, Stand}
+use Rattle.calls.specs.Bytes.{ByteCall, allocate, deallocate, reallocate, insert, append, Asks, take, back, resize, give, follow, bytes, inBytes}
+use Rattle.calls.specs.Performs.{Long, Inside, grainsOf, mostOf, outcome, Early, short, wrong, outside, stored, Performs, early, refused, granted, Defines, Stand}
 use Rattle.calls.specs.Storable.{Sized, AllLong, outcome-stored}
+use Rattle.calls.specs.Resizes.{live, resize-stands}
 
 -- the table has room for the regions of a call
 abbrev pub Spare : Slices → ByteCall → Type 0
 Spare S (allocate n a) = Unit {0}
 Spare S (deallocate x a) = Unit {0}
+Spare S (reallocate x n a) = Unit {0}
 Spare S (insert x n) = entry (S .regions) 0 < mostOf S
 Spare S (append x n) = entry (S .regions) 0 < mostOf S
 
@@ -36,6 +39,7 @@ Spare S (append x n) = entry (S .regions) 0 < mostOf S
 pub long-each : (S : Slices) (k : ByteCall) → AllLong S → Long S k
 long-each S (allocate n a) l = l .tables
 long-each S (deallocate x a) l = l .tables
+long-each S (reallocate x n a) l = l .tables
 long-each S (insert x n) l = (l .tables .heads, l .some)
 long-each S (append x n) l = (l .tables .heads, l .some)
 
@@ -43,6 +47,7 @@ long-each S (append x n) l = (l .tables .heads, l .some)
 pub asks-aligned : (k : ByteCall) (K : Call) → Asks k K → Aligned K
 asks-aligned k K (take {a = a} r) = multiple-align a (r .alignment .power)
 asks-aligned k K (back s) = tt
+asks-aligned k K (resize {a = a} r s) = multiple-align a (r .alignment .power)
 asks-aligned k K give = tt
 asks-aligned k K follow = tt
 
@@ -50,6 +55,7 @@ asks-aligned k K follow = tt
 pub asks-fair : (S : Slices) (k : ByteCall) (K : Call) → Spare S k → Asks k K → Fair (memoryOf 8 S) (mostOf S) K
 asks-fair S k K f (take {a = a} r) = multiple-align a (r .alignment .power)
 asks-fair S k K f (back s) = tt
+asks-fair S k K f (resize {a = a} r s) = multiple-align a (r .alignment .power)
 asks-fair S k K f give = rw (memory-table 8 S 0) f
 asks-fair S k K f follow = rw (memory-table 8 S 0) f
 
@@ -62,6 +68,17 @@ pub behind-not-live : (n c : ℕ) (m : Memory) (h : Heap) → Sound n c m h → 
 behind-not-live n c m h o q f x s d b e =
     let i = in-piece x s d (h .blocks) (o .heap .order) b in
     f (omega (arith, i .behind, at-end (i .ends) last 0 (h .blocks) (i .sentinel), o .whole, at-whole x (used s d) 0 out (h .blocks) (o .heap .order) b .1 .within))
+
+-- what stands when all writes are stored stands where a payload was moved among them, too
+pub stored-stands : (S : Slices) (h : Heap) (o : Stand S h) (K : Call) (p : Plan) → Aligned K → outcome S K ≡ ok p
+    → Stand (stores 8 S (p .writes)) (left h (answerOf 12 K h)) → Stand (stored S K p) (left h (answerOf 12 K h))
+stored-stands S h o (Take n a) p al e k = k
+stored-stands S h o (Return q) p al e k = k
+stored-stands S h o (Resize q n a) p al e k =
+    let w = live S h o q n a al p e in
+    resize-stands S h o q n a al p e (w .x) (w .s) (w .d) (w .here) (w .payload) k
+stored-stands S h o (Give g n) p al e k = k
+stored-stands S h o (Append g n) p al e k = k
 
 -- what is promised of a call on slices that stand for h: the definition's answer, and slices for its heap
 pub record Refined (h : Heap) (k : ByteCall) (r : Reply) (T : Slices) : Type 0 where
@@ -77,6 +94,13 @@ refined-outside S h k K o (back {x = x} {a = a} {q = q} s) f =
     record {
       heap = h;
       defined = subst (λ (w : Answer). Defines h (deallocate x a) (inBytes (deallocate x a) (said w)) (left h w)) e (Defines.asked (Return q) (back s));
+      stands = o;
+    }
+refined-outside S h k K o (resize {x = x} {n = n} {a = a} {q = q} r s) f =
+    let e = not-live-resize 12 h q (halves 16 n) (multiple 16 a) (behind-not-live (grainsOf S) 12 (memoryOf 8 S) h o q f) in
+    record {
+      heap = h;
+      defined = subst (λ (w : Answer). Defines h (reallocate x n a) (inBytes (reallocate x n a) (said w)) (left h w)) e (Defines.asked (Resize q (halves 16 n) (multiple 16 a)) (resize r s));
       stands = o;
     }
 refined-outside S h k K o give f = absurd (f tt)
@@ -101,13 +125,13 @@ module _ (S : Slices) (z : Sized S) (l : AllLong S) (h : Heap) (o : Stand S h) (
     }
 
     -- granted
-    pub refined-ok : (p : Plan) → outcome S K ≡ ok p → Refined h k (yes (bytes k (p .answer))) (stores 8 S (p .writes))
+    pub refined-ok : (p : Plan) → outcome S K ≡ ok p → Refined h k (yes (bytes k (p .answer))) (stored S K p)
     refined-ok p e = record {
       heap = left h answer;
       defined = subst (λ (r : Reply). Defines h k r (left h answer)) (ap (inBytes k) (sym (agrees .0) ∙ ap reply e)) (Defines.asked K a);
-      stands = subst (λ (n : ℕ). Sound n 12 (memoryOf 8 (stores 8 S (p .writes))) (left h answer)) (sym (stored-grains S (p .writes)))
+      stands = stored-stands S h o K p (asks-aligned k K a) e (subst (λ (n : ℕ). Sound n 12 (memoryOf 8 (stores 8 S (p .writes))) (left h answer)) (sym (stored-grains S (p .writes)))
           (sound-stored (grainsOf S) 12 8 S (p .writes) (left h answer) (wide-8 (S .arena) z) (outcome-stored S z l K p (asks-aligned k K a) e)
-          (subst (λ (r : Result Plan). Sound (grainsOf S) 12 (written (memoryOf 8 S) r) (left h answer)) e (agrees .1)));
+          (subst (λ (r : Result Plan). Sound (grainsOf S) 12 (written (memoryOf 8 S) r) (left h answer)) e (agrees .1))));
     }
 
   -- refused early

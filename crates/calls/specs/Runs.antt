@@ -14,10 +14,10 @@ use Rattle.sound.specs.Runs.{regionsOf as regionsAsked}
 use Rattle.sound.specs.Determined.{determined}
 use Rattle.slices.specs.Decode.{wide-8}
 use Rattle.slices.specs.Slices.{Slices, memoryOf, memory-table, stores}
-use Rattle.slices.specs.Kept.{Lengths, stores-lengths}
+use Rattle.slices.specs.Kept.{Lengths}
 use Rattle.slices.specs.Stored.{stores-are}
-use Rattle.calls.specs.Bytes.{ByteCall, allocate, deallocate, insert, append, Asks, take, back, give, follow}
-use Rattle.calls.specs.Performs.{grainsOf, mostOf, Performs, early, refused, granted, Defines, Stand}
+use Rattle.calls.specs.Bytes.{ByteCall, allocate, deallocate, reallocate, insert, append, Asks, take, back, resize, give, follow}
+use Rattle.calls.specs.Performs.{grainsOf, mostOf, stored, stored-lengths, stored-regions, Performs, early, refused, granted, Defines, Stand}
 use Rattle.calls.specs.Storable.{Sized, AllLong, outcome-stored}
 use Rattle.calls.specs.Begins.{Begun, begun-lengths, begun-count, begun-stands}
 use Rattle.calls.specs.Fills.{Fills, fills-as, fills-lengths, fills-stand}
@@ -40,6 +40,7 @@ pub data DefinesAll : Heap → List ByteCall → List Reply → Heap → Type 0 
 abbrev pub regionsOf : ByteCall → ℕ
 regionsOf (allocate n a) = 0
 regionsOf (deallocate x a) = 0
+regionsOf (reallocate x n a) = 0
 regionsOf (insert x n) = 1
 regionsOf (append x n) = 1
 
@@ -53,7 +54,7 @@ regionsIn (k ∷ l) = regionsOf k + regionsIn l
 pub performs-lengths : (S : Slices) (k : ByteCall) (r : Reply) (T : Slices) → Performs S k r T → Lengths S T
 performs-lengths S k r T (early i e) = record { arena = refl; lists = refl; live = refl; regions = refl }
 performs-lengths S k r T (refused K i g e) = record { arena = refl; lists = refl; live = refl; regions = refl }
-performs-lengths S k r T (granted K p g e) = stores-lengths 8 S (p .writes)
+performs-lengths S k r T (granted K p g e) = stored-lengths S K p
 
 -- so tables that were long enough are
 keeps-sized : {S T : Slices} → Lengths S T → Sized S → Sized T
@@ -66,6 +67,7 @@ keeps-long e l = record { tables = rw (e .arena, e .lists, e .live) (l .tables);
 asks-regions : (k : ByteCall) (K : Call) → Asks k K → regionsAsked K ≡ regionsOf k
 asks-regions k K (take r) = refl
 asks-regions k K (back s) = refl
+asks-regions k K (resize r s) = refl
 asks-regions k K give = refl
 asks-regions k K follow = refl
 
@@ -83,6 +85,7 @@ performs-count S k r T z l (granted K p g e) =
       memory-table 8 S 0,
       memory-table 8 (stores 8 S (p .writes)) 0,
       stores-are 8 S (p .writes) (wide-8 (S .arena) z) v Table 0,
+      ap (λ (t : List ℕ). entry t 0) (stored-regions S K p),
     )
 
 -- ---- T5
@@ -97,6 +100,7 @@ pub record RunRefined (h : Heap) (ks : List ByteCall) (rs : List Reply) (T : Sli
 spare-each : (S : Slices) (k : ByteCall) (j : ℕ) → entry (S .regions) 0 + (regionsOf k + j) ≤ mostOf S → Spare S k
 spare-each S (allocate n a) j h = tt
 spare-each S (deallocate x a) j h = tt
+spare-each S (reallocate x n a) j h = tt
 spare-each S (insert x n) j h = omega arith
 spare-each S (append x n) j h = omega arith
 
@@ -114,7 +118,7 @@ runs-refine S ks rs T h (write {T = U} {h = g} a f q) z l o room =
     let b = fills-as h g S U (determined (grainsOf S) 12 (memoryOf 8 S) h g o a .0) f in
     let e = fills-lengths h S U b in
     runs-refine U ks rs T h q (keeps-sized e z) (keeps-long e l) (fills-stand h S U b o)
-    (omega (arith, room, ap (λ (t : List ℕ). entry t 0) (b .regions), ap (λ (n : ℕ). (n - 1) / 2) (e .regions)))
+    (omega (arith, room, ap (λ (t : List ℕ). entry t 0) (b .tables .regions), ap (λ (n : ℕ). (n - 1) / 2) (e .regions)))
 
 -- from tables that were made empty
 pub runs-from-init : (S T U : Slices) → Sized S → AllLong S → Begun S T → (ks : List ByteCall) (rs : List Reply) → Runs T ks rs U → regionsIn ks ≤ mostOf T

@@ -38,12 +38,15 @@ NotMoved p j = Apart (16 * p .answer) (16 * p .moved) j 1
 -- ---- in parts
 
 -- the writes in their two parts
+pub first-part : (p : Plan) (v w : List Write) → p .writes ≡ v ++ w → p .early ≡ length v → firstWrites p ≡ v
+first-part p v w e f = ap (take (p .early)) e ∙ take-at v w (p .early) (sym f)
+
+pub later-part : (p : Plan) (v w : List Write) → p .writes ≡ v ++ w → p .early ≡ length v → laterWrites p ≡ w
+later-part p v w e f = ap (drop (p .early)) e ∙ drop-at v w (p .early) (sym f)
+
 pub carried-parts : (S : Slices) (q : ℕ) (p : Plan) (v w : List Write) → p .writes ≡ v ++ w → p .early ≡ length v
     → carried S q p ≡ stores 8 (shifted (stores 8 S v) q (p .answer) (p .moved)) w
-carried-parts S q p v w e f =
-    let a : firstWrites p ≡ v = ap (take (p .early)) e ∙ take-at v w (p .early) (sym f) in
-    let b : laterWrites p ≡ w = ap (drop (p .early)) e ∙ drop-at v w (p .early) (sym f) in
-    rw (a, b)
+carried-parts S q p v w e f = rw (first-part p v w e f, later-part p v w e f)
 
 -- where a move changes nothing, all writes are stored
 unmoved : (S : Slices) (q : ℕ) (p : Plan) → ((a : List ℕ) → Moved a (16 * q) (16 * p .answer) (16 * p .moved) a) → carried S q p ≡ stores 8 S (p .writes)
