@@ -1,6 +1,9 @@
 -- The calls as a caller makes them, in bytes; and what each asks for in half grains and grains, or why its numbers are
 -- refused before the heap is looked at.
 use Prim.Native.Nat.{ℕ, _+_, _-_, _*_, _/_, _%_}
+use native.Mathlib.Omega.{arith}
+use mathlib.Core.Path.{_≡_}
+use mathlib.Core.Logic.{⊎-elim}
 use Rattle.choice.specs.Choice.{ifEq}
 use Rattle.definition.specs.Units.{halves, multiple, firstGrain, wholeGrains}
 use Rattle.sound.specs.Calls.{Call, Take, Return, Resize, Give, Append}
@@ -25,6 +28,10 @@ pub data Wrong : ByteCall → ℕ → Type 0 where
   resize-range : {x n a : ℕ} → (InRange n a → ⊥) → Wrong (reallocate x n a) 2
   resize-unsuited : {x n a : ℕ} → InRange n a → (Suits x a → ⊥) → Wrong (reallocate x n a) 2
   resize-unkind : {x n a : ℕ} → InRange n a → Suits x a → (OfKind x → ⊥) → Wrong (reallocate x n a) 3
+
+-- a payload's offset in bytes is its place in half grains
+pub stands-offset : {x a q : ℕ} → Stands x a q → 16 * q ≡ x
+stands-offset s = ⊎-elim (λ e. omega (arith, s .number)) (λ e. omega (arith, s .number)) (s .kind)
 
 -- the grains of n bytes that follow a region which ended at the offset x: inside a grain none ends, and none follows
 abbrev pub following : ℕ → ℕ → ℕ

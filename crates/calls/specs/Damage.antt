@@ -1,16 +1,20 @@
 -- T10 of the calls on slices: slices Q that differ from S at most in the words of D, by whatever overwrote them. A call that
--- on S reads no word of D replies on Q as on S, and leaves slices that again differ at most in D.
-use Prim.Native.Nat.{ℕ, _-_}
+-- on S reads no word of D, and moves no byte in which they differ, replies on Q as on S, and leaves slices that again differ
+-- at most in D.
+use Prim.Native.Nat.{ℕ, _-_, _/_}
 use mathlib.Core.Path.{_≡_, sym, _∙_, subst}
+use Rattle.definition.specs.Units.{halves, multiple}
+use Rattle.script.specs.Script.{ok}
 use Rattle.script.specs.Locality.{Reads, DiffersIn, Contained}
-use Rattle.sound.specs.Calls.{Call, scriptOf, damage-stays}
+use Rattle.sound.specs.Plans.{Plan}
+use Rattle.sound.specs.Calls.{Call, Resize, scriptOf, damage-stays}
 use Rattle.sound.specs.Runs.{Reply}
-use Rattle.slices.specs.Decode.{grains-keep, wide-8}
-use Rattle.slices.specs.Slices.{Slices, memoryOf, stores}
-use Rattle.slices.specs.Kept.{Lengths, all-valid-keep}
-use Rattle.slices.specs.Stored.{stores-memory}
-use Rattle.calls.specs.Bytes.{ByteCall, allocate, deallocate, insert, append, Asks}
-use Rattle.calls.specs.Performs.{Long, Inside, grainsOf, mostOf, outcome, Early, short, wrong, outside, Goes, Performs, early, refused, granted}
+use Rattle.slices.specs.Decode.{grains-keep}
+use Rattle.slices.specs.Slices.{Slices, memoryOf, AllValid}
+use Rattle.slices.specs.Kept.{Lengths}
+use Rattle.carry.specs.Differs.{SameBytes, stores-differs, carried-differs}
+use Rattle.calls.specs.Bytes.{ByteCall, allocate, deallocate, reallocate, insert, append, Asks, take, back, resize, give, follow}
+use Rattle.calls.specs.Performs.{Long, Inside, grainsOf, mostOf, outcome, Early, short, wrong, outside, Goes, stored, Performs, early, refused, granted}
 use Rattle.calls.specs.Storable.{Sized, AllLong, outcome-stored}
 use Rattle.calls.specs.Refines.{asks-aligned}
 
@@ -24,17 +28,27 @@ pub record Contains (D : ℕ → ℕ → Type 0) (T Q : Slices) (k : ByteCall) (
 abbrev pub ReadsNone : (ℕ → ℕ → Type 0) → Slices → ByteCall → Type 0
 ReadsNone D S k = (K : Call) → Asks k K → (g y : ℕ) → Reads (memoryOf 8 S) (scriptOf (grainsOf S) 12 (mostOf S) K) g y → D g y → ⊥
 
+-- and the bytes that it moves are the same in both: those of a payload that is resized and has to go to another place
+abbrev pub MovesSame : Slices → Slices → ByteCall → Type 0
+MovesSame S Q (allocate n a) = Unit {0}
+MovesSame S Q (deallocate x a) = Unit {0}
+MovesSame S Q (reallocate x n a) = (p : Plan) → outcome S (Resize (x / 16) (halves 16 n) (multiple 16 a)) ≡ ok p → SameBytes (S .arena) (Q .arena) (x / 16) (p .moved)
+MovesSame S Q (insert x n) = Unit {0}
+MovesSame S Q (append x n) = Unit {0}
+
 module _ (S Q : Slices) (e : Lengths S Q) where
   -- lengths alone count for what is refused early
   long-keep : (k : ByteCall) → Long S k → Long Q k
   long-keep (allocate n a) l = rw (e .arena, e .lists, e .live) l
   long-keep (deallocate x a) l = rw (e .arena, e .lists, e .live) l
+  long-keep (reallocate x n a) l = rw (e .arena, e .lists, e .live) l
   long-keep (insert x n) l = rw (e .lists, e .regions) l
   long-keep (append x n) l = rw (e .lists, e .regions) l
 
   long-back : (k : ByteCall) → Long Q k → Long S k
   long-back (allocate n a) l = rw (sym (e .arena), sym (e .lists), sym (e .live)) l
   long-back (deallocate x a) l = rw (sym (e .arena), sym (e .lists), sym (e .live)) l
+  long-back (reallocate x n a) l = rw (sym (e .arena), sym (e .lists), sym (e .live)) l
   long-back (insert x n) l = rw (sym (e .lists), sym (e .regions)) l
   long-back (append x n) l = rw (sym (e .lists), sym (e .regions)) l
 
@@ -57,15 +71,25 @@ module _ (S Q : Slices) (e : Lengths S Q) where
     same-outcome : (K : Call) → Asks k K → outcome Q K ≡ outcome S K
     same-outcome K a = rw (same-grains, e .regions) (stays K a .answer)
 
-    pub performs-contained : Sized S → AllLong S → (r : Reply) (T : Slices) → Performs S k r T → Contains D T Q k r
-    performs-contained z l r T (early i a) = record { after = Q; same = early i (early-keep k i a); differs = d }
-    performs-contained z l r T (refused K i g f) = record { after = Q; same = refused K i (goes-keep k K g) (same-outcome K (g .asks) ∙ f); differs = d }
-    performs-contained z l r T (granted K p g f) =
-        let v = outcome-stored S z l K p (asks-aligned k K (g .asks)) f in
-        let m = stores-memory 8 S (p .writes) (wide-8 (S .arena) z) v in
-        let q = stores-memory 8 Q (p .writes) (wide-8 (Q .arena) (rw (e .arena) z)) (all-valid-keep 8 S Q (p .writes) e v) in
-        record {
-          after = stores 8 Q (p .writes);
-          same = granted K p (goes-keep k K g) (same-outcome K (g .asks) ∙ f);
-          differs = rw (m, q) (stays K (g .asks) .after (p .writes));
-        }
+    module _ (z : Sized S) (l : AllLong S) (moves : MovesSame S Q k) where
+      -- what is stored, and moved, is the same in both
+      kept : (K : Call) (p : Plan) → Asks k K → outcome S K ≡ ok p → DiffersIn D (memoryOf 8 (stored S K p)) (memoryOf 8 (stored Q K p))
+      kept K p a f = go k moves K a (outcome-stored S z l K p (asks-aligned k K a) f) f
+        where
+          go : (k : ByteCall) → MovesSame S Q k → (K : Call) → Asks k K → AllValid 8 S (p .writes) → outcome S K ≡ ok p
+              → DiffersIn D (memoryOf 8 (stored S K p)) (memoryOf 8 (stored Q K p))
+          go k moves K (take r) v f = stores-differs D S Q (p .writes) e z v d
+          go k moves K (back s) v f = stores-differs D S Q (p .writes) e z v d
+          go k moves K (resize {n = n} {a = a} {q = q} r s) v f = carried-differs D S Q q p e z v
+              (rw (s .number) (moves p (subst (λ (u : ℕ). outcome S (Resize u (halves 16 n) (multiple 16 a)) ≡ ok p) (s .number) f))) d
+          go k moves K give v f = stores-differs D S Q (p .writes) e z v d
+          go k moves K follow v f = stores-differs D S Q (p .writes) e z v d
+
+      pub performs-contained : (r : Reply) (T : Slices) → Performs S k r T → Contains D T Q k r
+      performs-contained r T (early i a) = record { after = Q; same = early i (early-keep k i a); differs = d }
+      performs-contained r T (refused K i g f) = record { after = Q; same = refused K i (goes-keep k K g) (same-outcome K (g .asks) ∙ f); differs = d }
+      performs-contained r T (granted K p g f) = record {
+        after = stored Q K p;
+        same = granted K p (goes-keep k K g) (same-outcome K (g .asks) ∙ f);
+        differs = kept K p (g .asks) f;
+      }

@@ -3,6 +3,7 @@
 use Prim.Native.Nat.{ℕ, _+_, _*_, _/_, _%_, _≤_}
 use native.Mathlib.Omega.{arith}
 use mathlib.Core.Path.{_≡_, refl, ap, sym, subst}
+use mathlib.Core.Logic.{⊎-elim}
 use lib.ListN.{length}
 use Rattle.definition.specs.Units.{halves, multiple}
 use Rattle.definition.specs.Calls.{Heap, Answer, place}
@@ -14,7 +15,9 @@ use Rattle.sound.specs.Checks.{isFree}
 use Rattle.sound.specs.Plans.{Plan}
 use Rattle.sound.specs.TakeChecked.{TakeChecked, take-checked}
 use Rattle.sound.specs.Writable.{Fits}
-use Rattle.sound.specs.Calls.{Call, Take, answerOf}
+use Rattle.sound.specs.WritableCalls.{Counted}
+use Rattle.sound.specs.WritableResize.{resize-storable}
+use Rattle.sound.specs.Calls.{Call, Take, Resize, answerOf}
 use Rattle.sound.specs.Runs.{Reply, yes, said, left}
 use Rattle.slices.specs.Decode.{grains-le}
 use Rattle.slices.specs.Slices.{Slices, memoryOf}
@@ -23,9 +26,10 @@ use Rattle.request.specs.Alignment.{multiple-align}
 use Rattle.request.specs.Asked.{InRange}
 use Rattle.request.specs.Returned.{Stands}
 use Rattle.request.specs.Handed.{handed-suits, handed-kind, half-divides}
-use Rattle.calls.specs.Bytes.{allocate, Asks, take, inBytes}
+use Rattle.calls.specs.Bytes.{allocate, reallocate, stands-offset, Asks, take, inBytes}
 use Rattle.calls.specs.Performs.{grainsOf, outcome, Performs, early, refused, granted, Defines, Stand}
 use Rattle.calls.specs.Storable.{Sized, AllLong}
+use Rattle.calls.specs.Resizes.{granted-resize}
 use Rattle.calls.specs.Refines.{performs-refines}
 
 -- ---- on any slices
@@ -60,6 +64,27 @@ allocate-within S n a r T (granted K p g f) x e = let z : 16 * p .answer ≡ x =
   where
     go : (K : Call) → Asks (allocate n a) K → outcome S K ≡ ok p → Within S n a (16 * p .answer)
     go K (take i) f = checked-within S n a p i (take-checked (grainsOf S) 12 (halves 16 n) (multiple 16 a) (memoryOf 8 S) p f)
+
+-- what a resize answers lies so, too: the old place, or one counted anew
+resize-within : (S : Slices) (n a x q : ℕ) (p : Plan) → InRange n a → Stands x a q → outcome S (Resize q (halves 16 n) (multiple 16 a)) ≡ ok p → Within S n a (16 * p .answer)
+resize-within S n a x q p i s f =
+    let u = multiple 16 a in
+    let t = resize-storable (grainsOf S) 12 q (halves 16 n) u (memoryOf 8 S) (decoded-slices 8 S) (multiple-align a (i .alignment .power)) p f in
+    let w : Stands (16 * p .answer) a (p .answer) = ⊎-elim
+    (λ (k : p .answer ≡ q). rw (k, stands-offset s) s)
+    (λ (k : Counted u (p .answer)). rw (k .1) (record { suits = handed-suits a (k .0) (i .alignment); kind = handed-kind a (k .0) (i .alignment); number = omega arith }))
+    (t .from) in
+    record {
+      low = omega (arith, t .answer .0);
+      inside = omega (arith, t .long, grains-le 8 (S .arena));
+      aligned = w .suits .divides;
+      returnable = record { suits = w .suits; kind = w .kind; number = refl };
+    }
+
+pub reallocate-within : (S : Slices) (x n a : ℕ) (r : Reply) (T : Slices) → Performs S (reallocate x n a) r T → (z : ℕ) → r ≡ yes z → Within S n a z
+reallocate-within S x n a r T p z e =
+    let g = granted-resize S x n a r T z p e in
+    subst (Within S n a) (g .answer) (resize-within S n a x (g .q) (g .plan) (g .range) (g .there) (g .outcome-is))
 
 -- ---- on slices that stand for a heap
 

@@ -13,6 +13,7 @@ pub mod One
 pub mod Numbers
 pub mod Conditions
 pub mod Handed
+pub mod Rehoused
 pub mod Damage
 pub mod Promises
 pub mod Promised

@@ -11,27 +11,54 @@ use Rattle.choice.specs.Choice.{same?, le?}
 use Rattle.definition.specs.Blocks.{Block, used, total}
 use Rattle.definition.specs.Calls.{Heap, Answer, keeps}
 use Rattle.definition.specs.Calls.{resize as resizeOf}
-use Rattle.invariants.specs.Order.{out, BlockAt, at-here, one-block}
+use Rattle.invariants.specs.Order.{BlockAt, at-here, stands-at, one-block}
 use Rattle.invariants.specs.Placing.{Align, keeps-holds}
 use Rattle.invariants.specs.Resized.{Resized, resize-granted}
 use Rattle.script.specs.Memory.{Write}
-use Rattle.script.specs.Script.{ok}
+use Rattle.script.specs.Script.{ok, Gives}
 use Rattle.sound.specs.Plans.{Plan, resizeScript}
 use Rattle.sound.specs.Swaps.{used-place}
 use Rattle.sound.specs.PayloadReturn.{Owned, owned}
 use Rattle.sound.specs.Payloads.{Carried, resize-carries, resize-spares, resize-spares-own}
-use Rattle.sound.specs.WritableResize.{resize-storable}
+use Rattle.sound.specs.WritableResize.{Movable, resize-storable}
+use Rattle.sound.specs.Checks.{Owner, seeOwner}
+use Rattle.sound.specs.SeenBeside.{owner-seen}
+use Rattle.sound.specs.Sound.{Sound}
 use Rattle.sound.specs.ResizeSound.{resize-meets}
 use Rattle.sound.specs.Runs.{Reply, yes, not, said, left, reply, one}
 use Rattle.slices.specs.Slices.{Slices, memoryOf, stores}
 use Rattle.slices.specs.Decode.{grains-le}
 use Rattle.slices.specs.Kept.{stores-lengths, AllOutside, stores-byte}
 use Rattle.slices.specs.Ample.{decoded-slices}
-use Rattle.sound.specs.Calls.{Resize}
+use Rattle.sound.specs.Calls.{Call, Resize}
+use Rattle.definition.specs.Units.{halves, multiple}
+use Rattle.request.specs.Asked.{InRange}
+use Rattle.request.specs.Returned.{Stands}
 use Rattle.carry.specs.Carry.{firstWrites, laterWrites, carried, NotMoved, first-part, later-part, carried-same, carried-lengths, carried-tables, carried-byte, carried-arrived, carried-kept}
-use Rattle.calls.specs.Performs.{grainsOf, outcome, Stand}
+use Rattle.calls.specs.Bytes.{reallocate, Asks, resize}
+use Rattle.calls.specs.Performs.{grainsOf, outcome, stored, Performs, early, refused, granted, Stand}
 use Rattle.calls.specs.Payload.{InPayloadBytes, writes-outside}
 use Rattle.calls.specs.Fills.{Fills, fills-stand}
+
+-- a resize that is not refused was granted by its script
+pub record GrantedResize (S : Slices) (x n a z : ℕ) (T : Slices) : Type 0 where
+  pub q : ℕ
+  pub plan : Plan
+  pub range : InRange n a
+  pub there : Stands x a q
+  pub outcome-is : outcome S (Resize q (halves 16 n) (multiple 16 a)) ≡ ok plan
+  pub answer : 16 * plan .answer ≡ z
+  pub left-is : T ≡ carried S q plan
+
+pub granted-resize : (S : Slices) (x n a : ℕ) (r : Reply) (T : Slices) (z : ℕ) → Performs S (reallocate x n a) r T → r ≡ yes z → GrantedResize S x n a z T
+granted-resize S x n a r T z (early i b) e = let u : _≡_ {A = ℕ} 0 1 = cc in absurd (omega arith)
+granted-resize S x n a r T z (refused K i g f) e = let u : _≡_ {A = ℕ} 0 1 = cc in absurd (omega arith)
+granted-resize S x n a r T z (granted K p g f) e = let u : 16 * p .answer ≡ z = cc in go K (g .asks) f u
+  where
+    go : (K : Call) → Asks (reallocate x n a) K → outcome S K ≡ ok p → 16 * p .answer ≡ z → GrantedResize S x n a z (stored S K p)
+    go K (resize {q = q} i s) f u = record { q = q; plan = p; range = i; there = s; outcome-is = f; answer = u; left-is = refl }
+
+-- ---- on slices that stand for a heap
 
 -- the payload at q, counted in half grains, is that of a block in use: of s grains at x, with its place d
 pub record Live (h : Heap) (q : ℕ) : Type 0 where
@@ -144,3 +171,17 @@ module _ (S : Slices) (h : Heap) (o : Stand S h) (q p a : ℕ) (al : Align a) (t
         ∙ stores-byte 8 S (t .writes) (16 * q + i) (writes-outside (16 * q + i) x (min s (keeps d p)) d own (t .writes) (resize-spares-own (grainsOf S) 12 q p a (memoryOf 8 S) h t x s d al o g b e f)))
         (λ (f : t .answer ≡ q → ⊥). arrives f i l)
         (same? (t .answer) q)
+
+    -- T3: no more is moved than the payload had
+    pub resize-few : t .moved ≤ 2 * s - d
+    resize-few =
+        let w = stands-at x (used s d) (h .blocks) b in
+        let v = subst (λ (A : List Block). Sound (grainsOf S) 12 (memoryOf 8 S) (record { blocks = A; lists = h .lists })) (w .whole) o in
+        let i = owner-seen (grainsOf S) 12 (memoryOf 8 S) (h .lists) (w .before) (w .behind) s d v in
+        let k : 2 * total (w .before) + d ≡ q = omega (arith, e, w .place) in
+        ⊎-elim
+        (λ (z : t .moved ≡ 0). omega arith)
+        (λ (z : Movable (grainsOf S) (memoryOf 8 S) q p (t .moved)).
+        let u : z .owner ≡ record { at = total (w .before); grains = s } = cc (z .seen, subst (λ (j : ℕ). Gives (memoryOf 8 S) (seeOwner j) (record { at = total (w .before); grains = s })) k i) in
+        omega (arith, z .end, ap (λ (j : Owner). j .at) u, ap (λ (j : Owner). j .grains) u, k))
+        (resize-storable (grainsOf S) 12 q p a (memoryOf 8 S) (decoded-slices 8 S) al t g .moved)

@@ -3,7 +3,6 @@
 use Prim.Native.Nat.{ℕ, _+_, _*_, _/_}
 use native.Mathlib.Omega.{arith}
 use mathlib.Core.Path.{_≡_, refl}
-use mathlib.Core.Logic.{inl, inr}
 use lib.ListN.{getD}
 use Rattle.definition.specs.Blocks.{used}
 use Rattle.definition.specs.Calls.{Heap}
@@ -15,8 +14,7 @@ use Rattle.sound.specs.Payloads.{NotOf, call-spares}
 use Rattle.script.specs.Script.{ok}
 use Rattle.slices.specs.Slices.{Slices, memoryOf, stores}
 use Rattle.slices.specs.Kept.{stores-byte}
-use Rattle.request.specs.Returned.{OfKind}
-use Rattle.calls.specs.Bytes.{ByteCall, allocate, deallocate, reallocate, insert, append, Asks, take, back, resize, give, follow}
+use Rattle.calls.specs.Bytes.{ByteCall, allocate, deallocate, reallocate, insert, append, stands-offset, Asks, take, back, resize, give, follow}
 use Rattle.calls.specs.Performs.{grainsOf, mostOf, outcome, stored, Performs, early, refused, granted, Stand}
 use Rattle.calls.specs.Payload.{InPayloadBytes, writes-outside}
 use Rattle.calls.specs.Resizes.{live, resize-others}
@@ -30,15 +28,10 @@ Other (reallocate x n a) v = x ≡ 16 * v → ⊥
 Other (insert x n) v = Unit {0}
 Other (append x n) v = Unit {0}
 
--- an offset of a kind is a whole number of half grains
-kind-halves : (x : ℕ) → OfKind x → 16 * (x / 16) ≡ x
-kind-halves x (inl e) = omega arith
-kind-halves x (inr e) = omega arith
-
 other-asked : (k : ByteCall) (K : Call) (v : ℕ) → Asks k K → Other k v → NotOf K v
 other-asked k K v (take r) o = tt
-other-asked k K v (back {x = x} s) o = λ e. o (omega (arith, e, s .number, kind-halves x (s .kind)))
-other-asked k K v (resize {x = x} r s) o = λ e. o (omega (arith, e, s .number, kind-halves x (s .kind)))
+other-asked k K v (back s) o = λ e. o (omega (arith, e, stands-offset s))
+other-asked k K v (resize r s) o = λ e. o (omega (arith, e, stands-offset s))
 other-asked k K v give o = tt
 other-asked k K v follow o = tt
 

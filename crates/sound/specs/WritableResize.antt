@@ -9,7 +9,7 @@ use Rattle.definition.specs.Calls.{place, keeps}
 use Rattle.invariants.specs.Placing.{Align, align-pos, place-some, keeps-some, keeps-holds}
 use Rattle.script.specs.Memory.{Memory, Write, apply}
 use Rattle.script.specs.Script.{over, over-run, Gives, inv-bind, inv-done}
-use Rattle.sound.specs.Checks.{isUsed, Beside, seeBehind, seeBefore, seeOwner}
+use Rattle.sound.specs.Checks.{isUsed, Beside, seeBehind, seeBefore, Owner, seeOwner}
 use Rattle.sound.specs.Plans.{Plan, padWrites, roomOf, leaves, bothLeave, leaveScript, takeScript, giveBackScript, elsewhereScript, downScript, moveScript, stretchScript, growScript, resizeScript}
 use Rattle.sound.specs.Constant.{back-reads}
 use Rattle.sound.specs.Inverted.{inv-if-eq, inv-if-le}
@@ -22,22 +22,26 @@ after-start : (m : Memory) (q x : ℕ) → FoundAt m q x → 2 * x + 1 ≤ q
 after-start m q x (inl e) = omega (arith, e .0, e .1)
 after-start m q x (inr e) = omega (arith, e .2)
 
--- u half grains at q are inside the arena, and fewer than p
-abbrev pub Movable : ℕ → ℕ → ℕ → ℕ → Type 0
-Movable n q p u = (q + u ≤ 2 * n) × (u < p)
+-- the u half grains from the payload's place q to its block's end are inside the arena, and fewer than p
+pub record Movable (n : ℕ) (m : Memory) (q p u : ℕ) : Type 0 where
+  pub owner : Owner
+  pub seen : Gives m (seeOwner q) owner
+  pub end : q + u ≡ 2 * (owner .at + owner .grains)
+  pub inside : q + u ≤ 2 * n
+  pub fewer : u < p
 
 -- all that a plan writes can be stored; its answer, with the p half grains there, is inside: the old place q, or one counted
 -- anew for the alignment a; what is moved from q is inside too, and fits at the answer
-pub record Storable (n c q p a : ℕ) (t : Plan) : Type 0 where
+pub record Storable (n c : ℕ) (m : Memory) (q p a : ℕ) (t : Plan) : Type 0 where
   pub writes : AllWritable n c (t .writes)
   pub answer : (1 ≤ t .answer) × (t .answer ≤ 2 * n)
   pub long : t .answer + p ≤ 2 * n
   pub from : (t .answer ≡ q) ⊎ Counted a (t .answer)
-  pub moved : (t .moved ≡ 0) ⊎ Movable n q p (t .moved)
+  pub moved : (t .moved ≡ 0) ⊎ Movable n m q p (t .moved)
 
 module _ (n c q p a : ℕ) (m : Memory) (d : Decoded n m) (al : Align a) (t : Plan) where
   -- step 4: a return on the memory that the take leaves
-  elsewhere-storable : (u : ℕ) → Movable n q p u → Gives m (elsewhereScript n c q p a u) t → Storable n c q p a t
+  elsewhere-storable : (u : ℕ) → Movable n m q p u → Gives m (elsewhereScript n c q p a u) t → Storable n c m q p a t
   unfolding elsewhereScript
   elsewhere-storable u v g =
       let i = inv-bind m (takeScript n c p a) _ g in
@@ -46,7 +50,7 @@ module _ (n c q p a : ℕ) (m : Memory) (d : Decoded n m) (al : Align a) (t : Pl
       let k = take-writable n c p a m (i .0) d al (i .1) in
       let b = back-writable n c q (apply m w) (j .0) (decoded-after n c m w d k) (sym (over-run m w (giveBackScript n c q) 24 (back-reads n c q)) ∙ j .1) in
       let e = take-answer n c p a m (i .0) d al (i .1) in
-      subst (Storable n c q p a) (inv-done m _ t (j .2)) (record {
+      subst (Storable n c m q p a) (inv-done m _ t (j .2)) (record {
         writes = all-append n c w (j .0 .writes) k b;
         answer = (e .0, omega (arith, e .1));
         long = e .1;
@@ -56,8 +60,8 @@ module _ (n c q p a : ℕ) (m : Memory) (d : Decoded n m) (al : Align a) (t : Pl
 
   module _ (inside : q < 2 * n) where
     -- step 3: the block comes to stand at z, with s grains
-    down-storable : (u z s : ℕ) (w : List Write) → Movable n q p u → AllWritable n c w → z + s + 1 ≤ n → Gives m (downScript n c q p a u z s w) t
-        → Storable n c q p a t
+    down-storable : (u z s : ℕ) (w : List Write) → Movable n m q p u → AllWritable n c w → z + s + 1 ≤ n → Gives m (downScript n c q p a u z s w) t
+        → Storable n c m q p a t
     unfolding downScript
     down-storable u z s w v b h g = ⊎-elim
         (λ i.
@@ -65,7 +69,7 @@ module _ (n c q p a : ℕ) (m : Memory) (d : Decoded n m) (al : Align a) (t : Pl
         let some : 1 ≤ e = place-some a z (align-pos a al) in
         let long : e + p ≤ 2 * s = omega (arith, keeps-holds e p, i .0) in
         let j = inv-bind m (leaveScript n c w z s (keeps e p)) _ (i .1) in
-        subst (Storable n c q p a) (inv-done m _ t (j .2)) (record {
+        subst (Storable n c m q p a) (inv-done m _ t (j .2)) (record {
           writes = all-append n c (j .0) _ (leave-writable n c m w z s (keeps e p) (j .0) b (keeps-some e p some) (i .0) h (j .1))
               (all-append n c (padWrites z e) _ (pad-writable n c z e s some (omega arith) h)
               (atLive {q = q} inside (omega arith), (atLive {q = 2 * z + e} (omega arith) (omega arith), tt)));
@@ -78,9 +82,9 @@ module _ (n c q p a : ℕ) (m : Memory) (d : Decoded n m) (al : Align a) (t : Pl
         (inv-if-le m (keeps (place a z) p) s _ _ g)
 
     -- the block of s grains at x, with b behind it
-    module _ (x s : ℕ) (b : Beside) (end : x + s + roomOf b + 1 ≤ n) (jb : Joined n c b) where
+    module _ (x s : ℕ) (own : Gives m (seeOwner q) (record { at = x; grains = s })) (b : Beside) (end : x + s + roomOf b + 1 ≤ n) (jb : Joined n c b) where
       -- step 3 or 4
-      move-storable : Movable n q p (2 * (x + s) - q) → Gives m (moveScript n c q p a x s b) t → Storable n c q p a t
+      move-storable : Movable n m q p (2 * (x + s) - q) → Gives m (moveScript n c q p a x s b) t → Storable n c m q p a t
       unfolding moveScript
       move-storable v g =
           let i = inv-bind m (seeBefore n c x) _ g in
@@ -94,23 +98,23 @@ module _ (n c q p a : ℕ) (m : Memory) (d : Decoded n m) (al : Align a) (t : Pl
           (inv-if-eq m (roomOf f) 0 _ _ (i .2))
 
       -- steps 1 and 2; a payload that doesn't fit there any more is moved, and is shorter than the new one
-      stretch-storable : (e : ℕ) → 1 ≤ e → 2 * x + e ≡ q → q ≤ 2 * (x + s) → Gives m (stretchScript n c q p a e x s b) t → Storable n c q p a t
+      stretch-storable : (e : ℕ) → 1 ≤ e → 2 * x + e ≡ q → q ≤ 2 * (x + s) → Gives m (stretchScript n c q p a e x s b) t → Storable n c m q p a t
       unfolding stretchScript
       stretch-storable e h l k g = ⊎-elim
           (λ i.
           let j = inv-bind m (leaveScript n c (leaves b) x (s + roomOf b) (keeps e p)) _ (i .1) in
-          subst (Storable n c q p a) (inv-done m _ t (j .2)) (record {
+          subst (Storable n c m q p a) (inv-done m _ t (j .2)) (record {
             writes = leave-writable n c m (leaves b) x (s + roomOf b) (keeps e p) (j .0) (leaves-writable n c b jb) (keeps-some e p h) (i .0) (omega arith) (j .1);
             answer = (omega arith, omega arith);
             long = omega (arith, keeps-holds e p, i .0);
             from = inl refl;
             moved = inl refl;
           }))
-          (λ i. move-storable (omega arith, omega (arith, i .0)) (i .1))
+          (λ i. move-storable (record { owner = record { at = x; grains = s }; seen = own; end = omega arith; inside = omega arith; fewer = omega (arith, i .0) }) (i .1))
           (inv-if-le m (keeps e p) (s + roomOf b) _ _ g)
 
   -- all steps
-  pub resize-storable : Gives m (resizeScript n c q p a) t → Storable n c q p a t
+  pub resize-storable : Gives m (resizeScript n c q p a) t → Storable n c m q p a t
   unfolding resizeScript growScript
   resize-storable g =
       let i = inv-bind m (seeOwner q) _ g in
@@ -121,7 +125,7 @@ module _ (n c q p a : ℕ) (m : Memory) (d : Decoded n m) (al : Align a) (t : Pl
       let f : Fits n x (isUsed s) = subst (Fits n x) (o .word) (d x) in
       let r : q < 2 * n = omega (arith, o .inside, f .1) in
       ⊎-elim
-      (λ j. subst (Storable n c q p a) (inv-done m _ t (j .1)) (record {
+      (λ j. subst (Storable n c m q p a) (inv-done m _ t (j .1)) (record {
         writes = tt;
         answer = (omega arith, omega arith);
         long = omega (arith, keeps-holds (q - 2 * x) p, j .0, o .inside, f .1);
@@ -131,7 +135,7 @@ module _ (n c q p a : ℕ) (m : Memory) (d : Decoded n m) (al : Align a) (t : Pl
       (λ j.
       let k = inv-bind m (seeBehind n c (x + s)) _ (j .1) in
       let b = behind-checked n c m (x + s) (k .0) (k .1) in
-      stretch-storable r x s (k .0) (behind-inside n c m d (x + s) (k .0) (f .1) b) (behind-joined n c m (x + s) (k .0) b) (q - 2 * x) (omega arith) (omega arith) (o .inside) (k .2))
+      stretch-storable r x s (i .1) (k .0) (behind-inside n c m d (x + s) (k .0) (f .1) b) (behind-joined n c m (x + s) (k .0) b) (q - 2 * x) (omega arith) (omega arith) (o .inside) (k .2))
       (inv-if-eq m (keeps (q - 2 * x) p) s _ _ (i .2))
 
   -- every write can be stored
