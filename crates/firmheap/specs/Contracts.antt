@@ -1,11 +1,9 @@
 -- The promises as contracts of the functions. A call lends the slices that it needs, and whatever the others are, they stay.
 use Prim.Native.Nat.{ℕ}
 use mathlib.Core.List.{List}
-use Rattle.sound.specs.Calls.{Take, Return}
 use Rattle.sound.specs.Runs.{Reply}
 use Rattle.free_list.specs.Lent.{lent}
-use Rattle.calls.specs.Bytes.{allocate, deallocate, insert, append, Asks}
-use Rattle.calls.specs.Performs.{Goes, Performs}
+use Rattle.calls.specs.Bytes.{insert, append}
 use Rattle.calls.specs.Promises.{Promise, Allocated, Deallocated, Initialised}
 
 -- ---- the arena a, the lists l and the live bits v become b, m and o
@@ -15,14 +13,6 @@ Allocates a l v n al r b m o = (t : List ℕ) → Allocated (lent a l v t) n al 
 
 abbrev pub Deallocates : List ℕ → List ℕ → List ℕ → ℕ → ℕ → Reply → List ℕ → List ℕ → List ℕ → Type 0
 Deallocates a l v x al r b m o = (t : List ℕ) → Deallocated (lent a l v t) x al r (lent b m o t)
-
--- the same in half grains, of any call that asks for this
-
-abbrev pub Takes : List ℕ → List ℕ → List ℕ → ℕ → ℕ → Reply → List ℕ → List ℕ → List ℕ → Type 0
-Takes a l v p u r b m o = (t : List ℕ) (n al : ℕ) → Goes (lent a l v t) (allocate n al) (Take p u) → Performs (lent a l v t) (allocate n al) r (lent b m o t)
-
-abbrev pub GivesBack : List ℕ → List ℕ → List ℕ → ℕ → Reply → List ℕ → List ℕ → List ℕ → Type 0
-GivesBack a l v q r b m o = (t : List ℕ) (x al : ℕ) → Asks (deallocate x al) (Return q) → Performs (lent a l v t) (deallocate x al) r (lent b m o t)
 
 -- ---- the arena a stays; the lists l, the live bits v and the regions t become m, o and u
 

@@ -6,7 +6,7 @@ use mathlib.Core.List.{List}
 use lib.ListN.{length}
 use Rattle.sound.specs.Calls.{Return}
 use Rattle.sound.specs.Plans.{Plan}
-use Rattle.sound.specs.Runs.{Reply, yes, not}
+use Rattle.sound.specs.Runs.{yes, not}
 use Rattle.slices.specs.Decode.{grains}
 use Rattle.slices.specs.Slices.{Slices}
 use Rattle.free_list.specs.Lent.{lent}
@@ -18,39 +18,15 @@ use Rattle.request.specs.declared.Payload.the-variants.{At, Unsuited, NoKind}
 use Rattle.request.specs.Returned.{Returned}
 use Rattle.deallocate.specs.declared.Plan.{Plan as BackPlan}
 use Rattle.deallocate.specs.Shown.{BackPlanned, backWrites}
-use Rattle.calls.specs.Bytes.{deallocate, unsuited, unkind, back}
-use Rattle.calls.specs.Performs.{short, wrong, outside, Performs, early, refused, granted}
+use Rattle.calls.specs.Bytes.{deallocate, Asks, unsuited, unkind, back}
+use Rattle.calls.specs.Performs.{short, wrong, outside, Goes, Performs, early, refused, granted}
 use Rattle.calls.specs.Promised.{deallocated}
-use Rattle.firmheap.specs.Contracts.{GivesBack, Deallocates}
+use Rattle.firmheap.specs.Contracts.{Deallocates}
 
--- ---- in half grains
-
-module _ (a l v : List ℕ) (q : ℕ) (e : LongEnough (length a) (length l) (length v)) where
-  -- the payload is behind the arena
-  pub back-outside : grains 8 a ≤ q / 2 → GivesBack a l v q (not 3) a l v
-  back-outside h t x al s = early 3 (outside (Return q) e s (λ i. omega arith))
-
-  -- else its bit is in the live table
-  pub back-inside : q / 2 < grains 8 a → (q < 64 * length v) × (q < 2 * grains 8 a)
-  unfolding grains
-  back-inside h = (omega (arith, e .bits), omega arith)
-
-  module _ (h : q / 2 < grains 8 a) (r : BackPlan) (s : BackPlanned a l v q r) where
-    abbrev planned : Plan
-    planned = record { answer = 0; moved = 0; early = 0; writes = backWrites a q r }
-
-    -- refused
-    pub back-refused : (r .refusal ≡ 0 → ⊥) → GivesBack a l v q (not (r .refusal)) a l v
-    back-refused n t x al k =
-        refused (Return q) (r .refusal) (record { long = e; asks = k; inside = back-inside h .1 }) (sym (s .answer t) ∙ unless-no (r .refusal) planned n)
-
-    -- done
-    pub back-done : (b m o : List ℕ) → r .refusal ≡ 0 → WrittenLive a l v (backWrites a q r) b m o → GivesBack a l v q (yes 0) b m o
-    back-done b m o f w t x al k =
-        subst (λ (T : Slices). Performs (lent a l v t) (deallocate x al) (yes 0) T) (sym (w .slices t))
-        (granted (Return q) planned (record { long = e; asks = k; inside = back-inside h .1 }) (sym (s .answer t) ∙ unless-ok (r .refusal) planned f))
-
--- ---- in bytes
+-- a payload that is not behind the arena has its bit in a live table that is long enough
+pub back-inside : (a l v : List ℕ) (q : ℕ) → LongEnough (length a) (length l) (length v) → q / 2 < grains 8 a → (q < 64 * length v) × (q < 2 * grains 8 a)
+unfolding grains
+back-inside a l v q e h = (omega (arith, e .bits), omega arith)
 
 module _ (a l v : List ℕ) (x al : ℕ) (z : length a < 2 ^ 64) where
   -- a table is too short
@@ -68,6 +44,28 @@ module _ (a l v : List ℕ) (x al : ℕ) (z : length a < 2 ^ 64) where
         let i = subst (Returned x al) f s in
         deallocated (lent a l v t) x al (not 3) (lent a l v t) z (early 3 (wrong 3 e (unkind (i .0) (i .1))))
 
-    -- it is what was asked for in half grains
-    pub deallocate-asked : (q : ℕ) (r : Reply) (b m o : List ℕ) → y ≡ At q → GivesBack a l v q r b m o → Deallocates a l v x al r b m o
-    deallocate-asked q r b m o f k t = deallocated (lent a l v t) x al r (lent b m o t) z (k t x al (back (subst (Returned x al) f s)))
+    module _ (q : ℕ) (f : y ≡ At q) where
+      asks : Asks (deallocate x al) (Return q)
+      asks = back (subst (Returned x al) f s)
+
+      -- the payload is behind the arena
+      pub deallocate-outside : grains 8 a ≤ q / 2 → Deallocates a l v x al (not 3) a l v
+      deallocate-outside h t = deallocated (lent a l v t) x al (not 3) (lent a l v t) z (early 3 (outside (Return q) e asks (λ i. omega arith)))
+
+      module _ (h : q / 2 < grains 8 a) (r : BackPlan) (k : BackPlanned a l v q r) where
+        abbrev planned : Plan
+        planned = record { answer = 0; moved = 0; early = 0; writes = backWrites a q r }
+
+        goes : (t : List ℕ) → Goes (lent a l v t) (deallocate x al) (Return q)
+        goes t = record { long = e; asks = asks; inside = back-inside a l v q e h .1 }
+
+        -- refused
+        pub deallocate-refused : (r .refusal ≡ 0 → ⊥) → Deallocates a l v x al (not (r .refusal)) a l v
+        deallocate-refused n t = deallocated (lent a l v t) x al (not (r .refusal)) (lent a l v t) z
+            (refused (Return q) (r .refusal) (goes t) (sym (k .answer t) ∙ unless-no (r .refusal) planned n))
+
+        -- done
+        pub deallocate-done : (b m o : List ℕ) → r .refusal ≡ 0 → WrittenLive a l v (backWrites a q r) b m o → Deallocates a l v x al (yes 0) b m o
+        deallocate-done b m o n w t = deallocated (lent a l v t) x al (yes 0) (lent b m o t) z
+            (subst (λ (T : Slices). Performs (lent a l v t) (deallocate x al) (yes 0) T) (sym (w .slices t))
+            (granted (Return q) planned (goes t) (sym (k .answer t) ∙ unless-ok (r .refusal) planned n)))

@@ -3,12 +3,10 @@
 // of each is one record, in crates/calls/specs/Promises.antt.
 ghost use mathlib.Core.Path.{_≡_};
 ghost use Prim.Native.Nat.{_+_};
-ghost use lib.ListN.{length as lengthOf};
 ghost use Rattle.bits.specs.Map.{mapWords, lists as listCount};
-ghost use Rattle.tables.specs.Length.{liveLength, LongEnough};
-ghost use Rattle.allocate.specs.Demand.{Demand};
+ghost use Rattle.tables.specs.Length.{liveLength};
 ghost use Rattle.firmheap.specs.Replies.{taken, done, given, laid};
-ghost use Rattle.firmheap.specs.Contracts.{Allocates, Deallocates, Takes, GivesBack, Initialises, Inserts, Appends};
+ghost use Rattle.firmheap.specs.Contracts.{Allocates, Deallocates, Initialises, Inserts, Appends};
 ghost use Rattle.calls.specs.Bytes.{following};
 ghost use Rattle.firmheap.specs.Give.{Lays};
 
@@ -89,22 +87,7 @@ pub fn allocate(
     if !asked.ok {
         return Taken::Refused(OUT_OF_RANGE);
     }
-    take(arena, lists, live, asked.length, asked.multiple)
-}
-
-// The same in half grains.
-fn take(
-    arena: &mut [u8],
-    lists: &mut [u64],
-    live: &mut [u64],
-    length: usize,
-    multiple: usize,
-) -> Taken
-    requires { ⌜ Demand length multiple × LongEnough (lengthOf (now arena)) (lengthOf (now lists)) (lengthOf (now live)) ⌝ }
-    ensures { λ r. ⌜ Takes (now (arena .entry)) (now (lists .entry)) (now (live .entry)) length multiple (taken r)
-        (now (arena .exit)) (now (lists .exit)) (now (live .exit)) ⌝ }
-{
-    let p = allocate::plan_take(arena, lists, length, multiple);
+    let p = allocate::plan_take(arena, lists, asked.length, asked.multiple);
     if p.refusal != 0 {
         return Taken::Refused(p.refusal);
     }
@@ -141,27 +124,20 @@ pub fn deallocate(
         return Done::Refused(TOO_SHORT);
     }
     match request::payload_of(payload, align) {
-        request::Payload::At(q) => give_back(arena, lists, live, q),
+        request::Payload::At(q) => {
+            if header::count(arena) <= q / 2 {
+                return Done::Refused(NOT_LIVE);
+            }
+            let p = deallocate::plan_back(arena, lists, live, q);
+            if p.refusal != 0 {
+                return Done::Refused(p.refusal);
+            }
+            deallocate::apply_back(arena, lists, live, q, p);
+            Done::Yes
+        }
         request::Payload::Unsuited => Done::Refused(OUT_OF_RANGE),
         request::Payload::NoKind => Done::Refused(NOT_LIVE),
     }
-}
-
-// The payload at q, counted in half grains.
-fn give_back(arena: &mut [u8], lists: &mut [u64], live: &mut [u64], q: usize) -> Done
-    requires { ⌜ LongEnough (lengthOf (now arena)) (lengthOf (now lists)) (lengthOf (now live)) ⌝ }
-    ensures { λ r. ⌜ GivesBack (now (arena .entry)) (now (lists .entry)) (now (live .entry)) q (done r)
-        (now (arena .exit)) (now (lists .exit)) (now (live .exit)) ⌝ }
-{
-    if header::count(arena) <= q / 2 {
-        return Done::Refused(NOT_LIVE);
-    }
-    let p = deallocate::plan_back(arena, lists, live, q);
-    if p.refusal != 0 {
-        return Done::Refused(p.refusal);
-    }
-    deallocate::apply_back(arena, lists, live, q, p);
-    Done::Yes
 }
 
 // ---- giving a region
