@@ -42,16 +42,18 @@ puts-copied (suc n) a from b to B =
     let more : suc n ≡ 1 + n = omega arith in
     rw (low, high, more) (copied-then {i = 1} (set-copied a from b to) (puts-copied n a (from + 1) (set b to x) (to + 1) B))
 
--- four words, each read from the list as it was, are a grain moved
+-- two words of a, put one behind the other into b, are half a grain copied
+pub half-copied : (a : List ℕ) (from : ℕ) (b : List ℕ) (to : ℕ) → Bytes a
+    → Copied a from b to 16 (puts 8 (puts 8 b to (num 8 a from)) (to + 8) (num 8 a (from + 8)))
+half-copied a from b to B = copied-then {i = 8} (puts-copied 8 a from b to B) (puts-copied 8 a (from + 8) _ (to + 8) B)
+
+-- four of them, each read from the list as it was, are a grain moved
 pub grain-moved : (a : List ℕ) (from to : ℕ) → Bytes a
     → Moved a from to 32
     (puts 8 (puts 8 (puts 8 (puts 8 a to (num 8 a from)) (to + 8) (num 8 a (from + 8))) (to + 16) (num 8 a (from + 16))) (to + 24) (num 8 a (from + 24)))
 grain-moved a from to B =
-    copied-then {i = 24}
-    (copied-then {i = 16}
-    (copied-then {i = 8} (puts-copied 8 a from a to B) (puts-copied 8 a (from + 8) _ (to + 8) B))
-    (puts-copied 8 a (from + 16) _ (to + 16) B))
-    (puts-copied 8 a (from + 24) _ (to + 24) B)
+    rw (← add-assoc to 16 8, ← add-assoc from 16 8)
+    (copied-then {i = 16} (half-copied a from a to B) (half-copied a (from + 16) _ (to + 16) B))
 
 -- ---- the words of the list
 
