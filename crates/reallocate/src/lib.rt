@@ -9,14 +9,73 @@ ghost use Rattle.free_list.specs.Lent.{Long};
 ghost use Rattle.tables.specs.Length.{LongEnough};
 ghost use Rattle.allocate.specs.Demand.{Demand};
 ghost use Rattle.undo.specs.Saved.{Inside};
-ghost use Rattle.reallocate.specs.Does.{resized, GoesElsewhere};
+ghost use Rattle.stretch.specs.Shown.{Behind};
+ghost use Rattle.reallocate.specs.Does.{resized, GoesElsewhere, Moves};
 ghost use Rattle.reallocate.specs.Left.{Leaves};
+ghost use Rattle.reallocate.specs.Slid.{Ready, Slid};
+use neighbours::Neighbour;
+use slide::SLID;
 use undo::Saved;
 
 // Where the payload is afterwards, or why the call is refused, unless with 0.
 pub struct Resized {
     pub refusal: u64,
     pub at: usize,
+}
+
+// ---- down, or elsewhere
+
+// The payload at q, in the used block of s grains at x, behind which a neighbour was seen, has to move.
+fn move_payload(
+    a: &mut [u8],
+    lists: &mut [u64],
+    live: &mut [u64],
+    q: usize,
+    x: usize,
+    s: usize,
+    behind: Neighbour,
+    length: usize,
+    multiple: usize,
+) -> Resized
+    requires { ⌜ Demand length multiple × LongEnough (lengthOf (now a)) (lengthOf (now lists)) (lengthOf (now live)) × Behind (now a) x s behind × (q < 2 * grains 8 (now a)) × (q ≤ 2 * (x + s)) × (2 * (x + s) ≤ q + length) ⌝ }
+    ensures { λ r. ⌜ Moves (now (a .entry)) (now (lists .entry)) (now (live .entry)) q x s behind length multiple (resized r)
+        (now (a .exit)) (now (lists .exit)) (now (live .exit)) ⌝ }
+{
+    let p = slide::plan_slide(a, lists, x, s, behind, length, multiple);
+    if p.refusal != 0 {
+        return Resized {
+            refusal: p.refusal,
+            at: q,
+        };
+    }
+    let u = 2 * (x + s) - q;
+    if p.kind == SLID {
+        slide_down(a, lists, live, q, u, p);
+        return Resized {
+            refusal: 0,
+            at: 2 * p.at + p.place,
+        };
+    }
+    go_elsewhere(a, lists, live, q, u, length, multiple)
+}
+
+// What was planned for the payload at q, of which u half grains are carried: after the neighbours left their lists, and
+// before the block is made.
+fn slide_down(
+    a: &mut [u8],
+    lists: &mut [u64],
+    live: &mut [u64],
+    q: usize,
+    u: usize,
+    p: slide::Plan,
+)
+    requires { ⌜ Ready (now a) (now lists) (now live) q u p ⌝ }
+    ensures { λ r. ⌜ Slid (now (a .entry)) (now (lists .entry)) (now (live .entry)) q u p
+        (now (a .exit)) (now (lists .exit)) (now (live .exit)) ⌝ }
+{
+    slide::apply_leaving(a, lists, p);
+    copy::move_halves(a, q, 2 * p.at + p.place, u);
+    slide::apply_down(a, lists, live, q, p);
 }
 
 // ---- elsewhere
