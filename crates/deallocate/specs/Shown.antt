@@ -3,16 +3,17 @@ use Prim.Native.Nat.{ℕ, _+_, _-_, _<_}
 use native.Mathlib.Omega.{arith}
 use mathlib.Core.Path.{_≡_, ap, _∙_}
 use mathlib.Core.List.{List, _++_}
+use lib.ListN.{length}
 use Rattle.bits.specs.Map.{lists}
 use Rattle.script.specs.Memory.{Write}
 use Rattle.script.specs.Script.{Script, Result, no, run, _>>=_}
 use Rattle.sound.specs.Checks.{seeBehind, seeBefore}
 use Rattle.sound.specs.Links.{pushWrites}
 use Rattle.sound.specs.Plans.{Plan, roomOf, bothLeave, freeWrites, joinScript, giveBackScript}
-use Rattle.slices.specs.Decode.{grains}
-use Rattle.free_list.specs.Lent.{held, classes, link, Leads}
+use Rattle.slices.specs.Decode.{grains, grains-keep}
+use Rattle.free_list.specs.Lent.{held, classes, link, Leads, link-keep, leads-keep}
 use Rattle.free_list.specs.Answers.{unless, unless-no}
-use Rattle.neighbours.specs.Leaving.{Known, bothLeaving}
+use Rattle.neighbours.specs.Leaving.{Known, bothLeaving, known-keep, both-keep}
 use Rattle.deallocate.specs.declared.Plan.{Plan as PlanAnswer}
 
 -- ---- the writes
@@ -41,6 +42,21 @@ pub record Able (a : List ℕ) (r : PlanAnswer) : Type 0 where
   pub inside : r .at + r .grains < grains 8 a
   pub list : r .list < lists
   pub head : Leads a (r .head)
+
+-- only the arena's length counts for both: the bytes may have been carried before they are written
+pub back-keep : (a b : List ℕ) (q : ℕ) (r : PlanAnswer) → length b ≡ length a → backWrites b q r ≡ backWrites a q r
+back-keep a b q r e =
+    ap (λ (w : List Write). (w ++ pushWrites (r .list) (r .at) (link b (r .head))) ++ freeWrites q (r .at) (r .grains)) (both-keep a b (r .behind) (r .before) e)
+    ∙ ap (λ (h : ℕ). (bothLeaving a (r .behind) (r .before) ++ pushWrites (r .list) (r .at) h) ++ freeWrites q (r .at) (r .grains)) (link-keep a b (r .head) e)
+
+pub able-keep : (a b : List ℕ) (r : PlanAnswer) → length b ≡ length a → Able a r → Able b r
+able-keep a b r e h = record {
+  behind = known-keep a b (r .behind) e (h .behind);
+  before = known-keep a b (r .before) e (h .before);
+  inside = rw (grains-keep 8 a b e) (h .inside);
+  list = h .list;
+  head = leads-keep a b (r .head) e (h .head);
+}
 
 -- nothing of a plan that was refused
 pub damaged-unable : (a : List ℕ) (r : PlanAnswer) → r .refusal ≡ 5 → r .refusal ≡ 0 → Able a r

@@ -103,6 +103,12 @@ leaving-keep a b zero k x p e = refl
 leaving-keep a b (suc g) k x p e =
     ap (λ (y : ℕ). unlinkWrites k y (link a p)) (sym (link-keep a b x e)) ∙ ap (unlinkWrites k (link b x)) (sym (link-keep a b p e))
 
+-- of both, too
+pub both-keep : (a b : List ℕ) (e f : Neighbour) → length b ≡ length a → bothLeaving b e f ≡ bothLeaving a e f
+both-keep a b e f h =
+    ap (λ (w : List Write). w ++ leavingOf b f) (sym (leaving-keep a b (e .grains) (e .list) (e .next) (e .prev) h))
+    ∙ ap (λ (w : List Write). leavingOf a e ++ w) (sym (leaving-keep a b (f .grains) (f .list) (f .next) (f .prev) h))
+
 -- both leave
 pub both-left : (e f : Neighbour) {a l b m c o : List ℕ} → Written a l (leavingOf a e) b m → Written b m (leavingOf b f) c o → Written a l (bothLeaving a e f) c o
 both-left e f {a} {b = b} i j = written-then {p = leavingOf a e} {q = leavingOf a f} i

@@ -76,6 +76,7 @@ pub record Planned (a l : List ℕ) (S : ℕ → ℕ → ℕ → ℕ → Script 
   pub answers : (q p u d : ℕ) → keeps d p ≡ m → (v t : List ℕ) → shown a (held a l v t) q p u x s m r ≡ run (held a l v t) (S q p u d)
   pub behind : r .refusal ≡ 0 → (r .kind ≡ 0 → ⊥) → Behind a x s (r .behind)
   pub able : r .refusal ≡ 0 → r .kind ≡ 1 → Able a x s m r
+  pub short : r .refusal ≡ 0 → (r .kind ≡ 0 → ⊥) → (r .kind ≡ 1 → ⊥) → s + r .behind .grains < m
 
 -- refused with 5, for a script that is
 pub planned-damaged : (a l : List ℕ) (S : ℕ → ℕ → ℕ → ℕ → Script Plan) (x s m : ℕ) (r : PlanAnswer) → r .refusal ≡ 5
@@ -85,6 +86,7 @@ planned-damaged a l S x s m r e h = record {
       ap (λ (w : ℕ). orRefused w (byKind (r .kind) q (stretchWrites a x s m r) (moving a (held a l v t) q p u x s r))) e ∙ h q p u d k v t;
   behind = λ z _. absurd (omega arith);
   able = λ z _. absurd (omega arith);
+  short = λ z _ _. absurd (omega arith);
 }
 
 -- ---- as a call that was planned finds it

@@ -77,6 +77,7 @@ module _ (a l : List ℕ) (x s m : ℕ) (e : Neighbour) (b : Behind a x s e) whe
     answers = λ q p u d k v o. too-small a l v o x s m e b q p u d k h;
     behind = λ _ _. b;
     able = λ _ z. absurd (omega arith);
+    short = λ _ _ _. h;
   })
 
   -- nothing is left over
@@ -85,6 +86,7 @@ module _ (a l : List ℕ) (x s m : ℕ) (e : Neighbour) (b : Behind a x s e) whe
     answers = λ q p u d k v o. fits a l v o x s m e b q p u d k (omega arith) (left-nothing a l v o (leavingOf a e) x (s + e .grains) m h 0 (link a noLink));
     behind = λ _ _. b;
     able = λ _ _. record { behind = b .known; inside = b .inside; kept = omega arith; rest = λ n. absurd (n h) };
+    short = λ _ _ n. absurd (n refl);
   })
 
   -- list k is that of what is left
@@ -114,6 +116,7 @@ module _ (a l : List ℕ) (x s m : ℕ) (e : Neighbour) (b : Behind a x s e) whe
           kept = f;
           rest = λ _. (h, subst (Leads a) (sym j) (headed-leads a (e .grains) (e .list) (e .next) (e .prev) k (y .word) (λ i. b .known i .next) (head-leads a l k y t z c)));
         };
+        short = λ _ _ n. absurd (n refl);
       }
 
 -- ---- the plan of the whole
@@ -129,6 +132,7 @@ module _ (a l : List ℕ) (x s m : ℕ) where
     answers = λ q p u d k v o. sym (ap (run (held a l v o)) (eq-yes (keeps d p) s _ _ (k ∙ h)) ∙ gives-done (held a l v o) (stays q []));
     behind = λ _ n. absurd (n refl);
     able = λ _ z. absurd (omega arith);
+    short = λ _ n _. absurd (n refl);
   })
 
   -- e was seen behind
@@ -152,6 +156,7 @@ module _ (a l : List ℕ) (x s m : ℕ) where
           ∙ sym (grows q p u d j v o ∙ goes (held a l v o) (seeBehind (grains 8 a) classes (x + s)) _ (sym (z v o) ∙ ap (λ (t : Bool). answer t (seenOf a e)) c));
       behind = f .behind;
       able = f .able;
+      short = f .short;
     }
 
 -- what was seen behind the block, in whichever list, stands in the arena and can leave
