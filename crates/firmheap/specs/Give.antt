@@ -15,13 +15,13 @@ use Rattle.sound.specs.RegionChecked.{region-checked}
 use Rattle.sound.specs.Calls.{Call, Give, Append, scriptOf}
 use Rattle.sound.specs.Runs.{Reply, yes, not}
 use Rattle.slices.specs.Decode.{grains}
-use Rattle.slices.specs.Slices.{Slices, memoryOf}
+use Rattle.slices.specs.Slices.{Slices, memoryOf, stores}
 use Rattle.free_list.specs.Lent.{lent}
 use Rattle.free_list.specs.Answers.{unless-no, unless-ok}
 use Rattle.calls.specs.Bytes.{ByteCall, insert, append, following, Asks, give, follow, bytes, inBytes}
 use Rattle.calls.specs.Promised.{promised}
 use Rattle.firmheap.specs.Contracts.{Inserts, Appends}
-use Rattle.calls.specs.Performs.{Long, Inside, outcome, short, Goes, Performs, early, refused, granted}
+use Rattle.calls.specs.Performs.{Long, Inside, outcome, short, Goes, stored, Performs, early, refused, granted}
 use Rattle.region.specs.Admit.{mostOf}
 use Rattle.give.specs.declared.Plan.{Plan as GivePlan}
 use Rattle.give.specs.Shown.{shown, planOf, givenWrites, RegionPlanned}
@@ -44,10 +44,11 @@ pub record Asked (n most : ℕ) (k : ByteCall) (behind g len : ℕ) : Type 0 whe
   asks : Asks k call
   inside : Inside n call
   script : scriptOf n 12 most call ≡ regionScript most behind n 12 g len
+  plain : (S : Slices) (p : Plan) → stored S call p ≡ stores 8 S (p .writes)
 
 regional-asked : (n most : ℕ) (k : ByteCall) (behind g len : ℕ) → Regional k behind g len → Asked n most k behind g len
-regional-asked n most k behind g len inserts = record { call = Give g len; asks = give; inside = tt; script = refl }
-regional-asked n most k behind g len follows = record { call = Append g len; asks = follow; inside = tt; script = refl }
+regional-asked n most k behind g len inserts = record { call = Give g len; asks = give; inside = tt; script = refl; plain = λ S p. refl }
+regional-asked n most k behind g len follows = record { call = Append g len; asks = follow; inside = tt; script = refl; plain = λ S p. refl }
 
 -- ---- in grains
 
@@ -90,7 +91,7 @@ module _ (a l t : List ℕ) (behind g len : ℕ) where
     -- done
     pub lay-done : (b m u : List ℕ) → r .refusal ≡ 0 → Given a l t (givenWrites a t r) b m u → Lays a l t behind g len (yes (r .used)) b m u
     lay-done b m u f w = record {
-      performs = λ v k c. subst (λ (T : Slices). Performs (lent a l v t) k (yes (bytes k (r .used))) T) (sym (w .slices v))
+      performs = λ v k c. subst (λ (T : Slices). Performs (lent a l v t) k (yes (bytes k (r .used))) T) (asked v k c .plain (lent a l v t) (planOf a (entry t 0) r) ∙ sym (w .slices v))
           (granted (asked v k c .call) (planOf a (entry t 0) r) (goes v k c) (answers v k c ∙ unless-ok (r .refusal) (planOf a (entry t 0) r) f));
       inside = λ i q.
           let z : r .used ≡ i = cc in
