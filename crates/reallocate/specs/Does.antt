@@ -4,7 +4,7 @@ use Prim.Native.Nat.{ℕ, zero, suc}
 use mathlib.Core.Path.{_≡_, refl}
 use mathlib.Core.List.{List}
 use Rattle.script.specs.Script.{Script, Result, ok, no, run}
-use Rattle.sound.specs.Plans.{Plan, elsewhereScript, moveScript}
+use Rattle.sound.specs.Plans.{Plan, elsewhereScript, moveScript, resizeScript}
 use Rattle.sound.specs.Runs.{Reply, yes, not}
 use Rattle.slices.specs.Decode.{grains}
 use Rattle.slices.specs.Slices.{Slices}
@@ -45,3 +45,7 @@ GoesElsewhere a l v q u p n r b m o = Carries a l v q (elsewhereScript (grains 8
 -- the same payload, in the used block of s grains at x, behind which e was seen, moves down or elsewhere
 abbrev pub Moves : List ℕ → List ℕ → List ℕ → ℕ → ℕ → ℕ → Neighbour → ℕ → ℕ → Reply → List ℕ → List ℕ → List ℕ → Type 0
 Moves a l v q x s e p n r b m o = Carries a l v q (moveScript (grains 8 a) classes q p n x s (behindOf a e)) r b m o
+
+-- the whole call
+abbrev pub Resizes : List ℕ → List ℕ → List ℕ → ℕ → ℕ → ℕ → Reply → List ℕ → List ℕ → List ℕ → Type 0
+Resizes a l v q p n r b m o = Carries a l v q (resizeScript (grains 8 a) classes q p n) r b m o

@@ -2,7 +2,7 @@
 // its first write. Only the return of the old block is checked after a write, the take's, which is undone where that return
 // is refused: so a refusal changes nothing.
 ghost use mathlib.Core.Path.{_≡_};
-ghost use Prim.Native.Nat.{_+_, _*_, _≤_, _<_};
+ghost use Prim.Native.Nat.{_+_, _*_, _^_, _≤_, _<_};
 ghost use lib.ListN.{length as lengthOf};
 ghost use Rattle.slices.specs.Decode.{grains};
 ghost use Rattle.free_list.specs.Lent.{Long};
@@ -10,17 +10,67 @@ ghost use Rattle.tables.specs.Length.{LongEnough};
 ghost use Rattle.allocate.specs.Demand.{Demand};
 ghost use Rattle.undo.specs.Saved.{Inside};
 ghost use Rattle.stretch.specs.Shown.{Behind};
-ghost use Rattle.reallocate.specs.Does.{resized, GoesElsewhere, Moves};
+ghost use Rattle.reallocate.specs.Does.{resized, GoesElsewhere, Moves, Resizes};
 ghost use Rattle.reallocate.specs.Left.{Leaves};
 ghost use Rattle.reallocate.specs.Slid.{Ready, Slid};
 use neighbours::Neighbour;
 use slide::SLID;
+use stretch::FITTED;
+use stretch::SAME;
 use undo::Saved;
 
 // Where the payload is afterwards, or why the call is refused, unless with 0.
 pub struct Resized {
     pub refusal: u64,
     pub at: usize,
+}
+
+// The payload at q, counted in half grains, is to have others at a multiple.
+pub fn resize(
+    a: &mut [u8],
+    lists: &mut [u64],
+    live: &mut [u64],
+    q: usize,
+    length: usize,
+    multiple: usize,
+) -> Resized
+    requires { ⌜ Demand length multiple × (length < 2 ^ 63) × LongEnough (lengthOf (now a)) (lengthOf (now lists)) (lengthOf (now live)) × (q < 2 * grains 8 (now a)) ⌝ }
+    ensures { λ r. ⌜ Resizes (now (a .entry)) (now (lists .entry)) (now (live .entry)) q length multiple (resized r)
+        (now (a .exit)) (now (lists .exit)) (now (live .exit)) ⌝ }
+{
+    let o = neighbours::see_owner(a, live, q);
+    if o.refusal != 0 {
+        return Resized {
+            refusal: o.refusal,
+            at: q,
+        };
+    }
+    let keep = request::keeps_of(q - 2 * o.at, length);
+    let p = stretch::plan_stretch(a, lists, o.at, o.grains, keep);
+    if p.refusal != 0 {
+        return Resized {
+            refusal: p.refusal,
+            at: q,
+        };
+    }
+    if p.kind == SAME {
+        return Resized { refusal: 0, at: q };
+    }
+    if p.kind == FITTED {
+        stretch::apply_stretch(a, lists, o.at, o.grains, keep, p);
+        return Resized { refusal: 0, at: q };
+    }
+    move_payload(
+        a,
+        lists,
+        live,
+        q,
+        o.at,
+        o.grains,
+        p.behind,
+        length,
+        multiple,
+    )
 }
 
 // ---- down, or elsewhere
