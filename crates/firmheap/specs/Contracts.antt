@@ -4,7 +4,7 @@ use mathlib.Core.List.{List}
 use Rattle.sound.specs.Runs.{Reply}
 use Rattle.free_list.specs.Lent.{lent}
 use Rattle.calls.specs.Bytes.{insert, append}
-use Rattle.calls.specs.Promises.{Promise, Allocated, Deallocated, Initialised}
+use Rattle.calls.specs.Promises.{Promise, Allocated, Deallocated, Reallocated, Initialised}
 
 -- ---- the arena a, the lists l and the live bits v become b, m and o
 
@@ -13,6 +13,9 @@ Allocates a l v n al r b m o = (t : List ℕ) → Allocated (lent a l v t) n al 
 
 abbrev pub Deallocates : List ℕ → List ℕ → List ℕ → ℕ → ℕ → Reply → List ℕ → List ℕ → List ℕ → Type 0
 Deallocates a l v x al r b m o = (t : List ℕ) → Deallocated (lent a l v t) x al r (lent b m o t)
+
+abbrev pub Reallocates : List ℕ → List ℕ → List ℕ → ℕ → ℕ → ℕ → Reply → List ℕ → List ℕ → List ℕ → Type 0
+Reallocates a l v x n al r b m o = (t : List ℕ) → Reallocated (lent a l v t) x n al r (lent b m o t)
 
 -- ---- the arena a stays; the lists l, the live bits v and the regions t become m, o and u
 

@@ -4,5 +4,6 @@ pub mod Replies
 pub mod Contracts
 pub mod Take
 pub mod Return
+pub mod Resize
 pub mod Begin
 pub mod Give

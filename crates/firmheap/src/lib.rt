@@ -6,7 +6,7 @@ ghost use Prim.Native.Nat.{_+_};
 ghost use Rattle.bits.specs.Map.{mapWords, lists as listCount};
 ghost use Rattle.tables.specs.Length.{liveLength};
 ghost use Rattle.firmheap.specs.Replies.{taken, done, given, laid};
-ghost use Rattle.firmheap.specs.Contracts.{Allocates, Deallocates, Initialises, Inserts, Appends};
+ghost use Rattle.firmheap.specs.Contracts.{Allocates, Deallocates, Reallocates, Initialises, Inserts, Appends};
 ghost use Rattle.calls.specs.Bytes.{following};
 ghost use Rattle.firmheap.specs.Give.{Lays};
 
@@ -137,6 +137,44 @@ pub fn deallocate(
         }
         request::Payload::Unsuited => Done::Refused(OUT_OF_RANGE),
         request::Payload::NoKind => Done::Refused(NOT_LIVE),
+    }
+}
+
+// ---- resize
+
+// The payload at the offset `payload`, which was handed out with the alignment `align` or another that suits it, is to have
+// `size` bytes: where it is, or elsewhere with all bytes that it had and keeps. Refused, it is as it was.
+pub fn reallocate(
+    arena: &mut [u8],
+    lists: &mut [u64],
+    live: &mut [u64],
+    payload: usize,
+    size: usize,
+    align: usize,
+) -> Taken
+    ensures { λ r. ⌜ Reallocates (now (arena .entry)) (now (lists .entry)) (now (live .entry)) payload size align (taken r)
+        (now (arena .exit)) (now (lists .exit)) (now (live .exit)) ⌝ }
+{
+    if !tables::long_enough(arena.len(), lists.len(), live.len()) {
+        return Taken::Refused(TOO_SHORT);
+    }
+    let asked = request::request_of(size, align);
+    if !asked.ok {
+        return Taken::Refused(OUT_OF_RANGE);
+    }
+    match request::payload_of(payload, align) {
+        request::Payload::At(q) => {
+            if header::count(arena) <= q / 2 {
+                return Taken::Refused(NOT_LIVE);
+            }
+            let r = reallocate::resize(arena, lists, live, q, asked.length, asked.multiple);
+            if r.refusal != 0 {
+                return Taken::Refused(r.refusal);
+            }
+            Taken::At(HALF * r.at)
+        }
+        request::Payload::Unsuited => Taken::Refused(OUT_OF_RANGE),
+        request::Payload::NoKind => Taken::Refused(NOT_LIVE),
     }
 }
 

@@ -111,14 +111,7 @@ fn move_payload(
 
 // What was planned for the payload at q, of which u half grains are carried: after the neighbours left their lists, and
 // before the block is made.
-fn slide_down(
-    a: &mut [u8],
-    lists: &mut [u64],
-    live: &mut [u64],
-    q: usize,
-    u: usize,
-    p: slide::Plan,
-)
+fn slide_down(a: &mut [u8], lists: &mut [u64], live: &mut [u64], q: usize, u: usize, p: slide::Plan)
     requires { ⌜ Ready (now a) (now lists) (now live) q u p ⌝ }
     ensures { λ r. ⌜ Slid (now (a .entry)) (now (lists .entry)) (now (live .entry)) q u p
         (now (a .exit)) (now (lists .exit)) (now (live .exit)) ⌝ }
