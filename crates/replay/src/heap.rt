@@ -35,8 +35,8 @@ pub fn is_same(c: parse::Call, a: Answer) -> bool {
     is_due(c.kind, a.refusal)
 }
 
-// Whether a refusal, if it is one, is that which the record has of this kind of call: a region that is too small, a take
-// for which there is no list.
+// Whether a refusal, if it is one, is that which the record has of this kind of call: a region that is too small, a take or
+// a resize for which there is no list.
 fn is_due(kind: u64, refusal: u64) -> bool {
     if refusal == 0 {
         return true;
@@ -66,6 +66,16 @@ pub fn make(
     }
     if c.kind == parse::TAKE {
         return take(arena, lists, live, c.first as usize, c.second as usize);
+    }
+    if c.kind == parse::RESIZE {
+        return resize(
+            arena,
+            lists,
+            live,
+            c.first as usize,
+            c.second as usize,
+            c.third as usize,
+        );
     }
     give_back(arena, lists, live, c.first as usize, c.second as usize)
 }
@@ -101,7 +111,24 @@ fn take(
     size: usize,
     align: usize,
 ) -> Answer {
-    match firmheap::allocate(arena, lists, live, size, align) {
+    let t = firmheap::allocate(arena, lists, live, size, align);
+    placed(arena, t)
+}
+
+fn resize(
+    arena: &mut [u8],
+    lists: &mut [u64],
+    live: &mut [u64],
+    payload: usize,
+    size: usize,
+    align: usize,
+) -> Answer {
+    let t = firmheap::reallocate(arena, lists, live, payload, size, align);
+    placed(arena, t)
+}
+
+fn placed(arena: &[u8], t: firmheap::Taken) -> Answer {
+    match t {
         firmheap::Taken::At(payload) => answered(payload as u64, usable(arena, payload)),
         firmheap::Taken::Refused(why) => refused(why),
     }

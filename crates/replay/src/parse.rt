@@ -30,7 +30,6 @@ pub enum Wanted {
     Region,
     Take,
     Return,
-    NoResize,
 }
 
 pub enum Parsed {
@@ -125,14 +124,14 @@ fn digit(b: u8) -> u64
 
 // ---- forms
 
-// The call, where its numbers are in the form of its kind.
+// The call, where its numbers are in the form of its kind. A resize has no number that must be 0.
 fn formed(c: Call) -> Parsed {
     let kind = c.kind;
     match kind {
         REGION => held(c, is_region(c), Wanted::Region),
         TAKE => held(c, c.third == 0, Wanted::Take),
         RETURN => held(c, is_return(c), Wanted::Return),
-        RESIZE => Parsed::Wrong(Wanted::NoResize),
+        RESIZE => Parsed::Call(c),
         _ => Parsed::Wrong(Wanted::Kind),
     }
 }

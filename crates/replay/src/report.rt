@@ -19,7 +19,6 @@ pub fn malformed(line: u64, text: &[u8], wanted: parse::Wanted) {
         ),
         parse::Wanted::Take => say(b"expected a take: 1 size alignment 0 answer usable"),
         parse::Wanted::Return => say(b"expected a return: 2 offset alignment 0 0 0"),
-        parse::Wanted::NoResize => say(b"resize is not there yet"),
     }
     say(b"\n");
 }

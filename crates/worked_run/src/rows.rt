@@ -1,5 +1,4 @@
-// The rows of the worked run of docs/HEAP.md, as far as its calls are there: without its resizes. The answers are those of
-// the document, and so are the free blocks up to the first resize; those behind it were worked out by hand.
+// The rows of the worked run of docs/HEAP.md: its calls, with the answers and the free blocks that it has.
 use crate::line;
 
 // A refused call's answer.
@@ -8,11 +7,13 @@ pub const NONE: usize = 18446744073709551615;
 // The most free blocks of a row.
 pub const MOST_FREE: usize = 3;
 
-// A call: a region's start and length; a payload's name, size and alignment; a payload's name, offset and alignment.
+// A call: a region's start and length; a payload's name, size and alignment; its name, offset and alignment; its name,
+// offset, new size and alignment.
 pub enum Call {
     Give(usize, usize),
     Take(u8, usize, usize),
     Return(u8, usize, usize),
+    Resize(u8, usize, usize, usize),
 }
 
 // The free blocks. One of size 0 is none.
@@ -46,10 +47,33 @@ pub fn row_at(i: u64) -> Row {
         ),
         9 => made(Call::Return(b'F', 144, 8), 0, two(0, 1152, 3296, 62208)),
         10 => made(Call::Take(b'J', 1008, 8), 16, two(1024, 128, 3296, 62208)),
-        11 => made(Call::Return(b'C', 1216, 64), 0, two(1024, 224, 3296, 62208)),
-        12 => made(Call::Return(b'J', 16, 8), 0, two(0, 1248, 3296, 62208)),
-        13 => made(Call::Take(b'K', 65000, 8), NONE, two(0, 1248, 3296, 62208)),
-        14 => made(Call::Return(b'D', 1264, 1), 0, two(0, 1280, 3296, 62208)),
+        11 => made(
+            Call::Resize(b'E', 1296, 3000, 16),
+            1296,
+            two(1024, 128, 4320, 61184),
+        ),
+        12 => made(Call::Return(b'C', 1216, 64), 0, two(1024, 224, 4320, 61184)),
+        13 => made(
+            Call::Resize(b'D', 1264, 40, 1),
+            1040,
+            two(1088, 192, 4320, 61184),
+        ),
+        14 => made(
+            Call::Return(b'J', 16, 8),
+            0,
+            three(0, 1024, 1088, 192, 4320, 61184),
+        ),
+        15 => made(
+            Call::Resize(b'E', 1296, 20000, 16),
+            1296,
+            three(0, 1024, 1088, 192, 21312, 44192),
+        ),
+        16 => made(
+            Call::Take(b'K', 65000, 8),
+            NONE,
+            three(0, 1024, 1088, 192, 21312, 44192),
+        ),
+        17 => made(Call::Return(b'D', 1040, 1), 0, two(0, 1280, 21312, 44192)),
         _ => made(Call::Return(b'E', 1296, 16), 0, one(0, 65504)),
     }
 }
@@ -82,16 +106,23 @@ pub fn put_call(text: &mut [u8], at: usize, call: Call) -> usize {
             put_pair(text, said, start, b", ", length)
         }
         Call::Take(name, size, align) => {
-            let said = line::put_text(text, at, b"take ");
-            let named = line::put(text, said, name);
+            let named = put_named(text, at, b"take ", name);
             let parted = line::put(text, named, b' ');
             put_pair(text, parted, size, b", align ", align)
         }
-        Call::Return(name, _, _) => {
-            let said = line::put_text(text, at, b"return ");
-            line::put(text, said, name)
+        Call::Return(name, _, _) => put_named(text, at, b"return ", name),
+        Call::Resize(name, _, size, _) => {
+            let named = put_named(text, at, b"resize ", name);
+            let parted = line::put_text(text, named, b" to ");
+            line::put_number(text, parted, size as u64)
         }
     }
+}
+
+// A call and its payload's name.
+fn put_named(text: &mut [u8], at: usize, call: &[u8], name: u8) -> usize {
+    let said = line::put_text(text, at, call);
+    line::put(text, said, name)
 }
 
 // Two numbers, with something between them.

@@ -7,10 +7,10 @@ use Rattle.worked_run.proofs.run.Statement.{statement}
 use Rattle.worked_run.proofs.run.Tie as tie
 
 abbrev Inv-loop : tie.InvT-loop
-Inv-loop arena₀ lists₀ live₀ regions₀ answers₀ frees₀ i₀ arena lists live regions answers frees i = (i ≤ 16) × (answers ≤ i) × (frees ≤ i) × (length arena ≡ length arena₀) × (length lists ≡ length lists₀) × (length live ≡ length live₀) × (length regions ≡ length regions₀)
+Inv-loop arena₀ lists₀ live₀ regions₀ answers₀ frees₀ i₀ arena lists live regions answers frees i = (i ≤ 19) × (answers ≤ i) × (frees ≤ i) × (length arena ≡ length arena₀) × (length lists ≡ length lists₀) × (length live ≡ length live₀) × (length regions ≡ length regions₀)
 
 abbrev μ-loop : tie.MeasureT-loop
-μ-loop arena₀ lists₀ live₀ regions₀ answers₀ frees₀ i₀ arena lists live regions answers frees i = 16 - i
+μ-loop arena₀ lists₀ live₀ regions₀ answers₀ frees₀ i₀ arena lists live regions answers frees i = 19 - i
 
 loop-holds : tie.Need-loop-holds Inv-loop μ-loop
 loop-holds c = search needs
