@@ -7,9 +7,9 @@ use mathlib.Core.Logic.{inl, inr, ⊎-elim}
 use lib.ListN.{length}
 use Rattle.align.specs.Align.{Power, power-pos}
 use Rattle.definition.specs.Calls.{place}
-use Rattle.invariants.specs.Placing.{Align, align-pos, keeps-holds, keeps-wanted}
+use Rattle.invariants.specs.Placing.{Align, keeps-holds, keeps-wanted}
 use Rattle.script.specs.Memory.{Memory, Write}
-use Rattle.script.specs.Script.{Script, ok, no, run, _>>=_, done, over, over-run, goes, halts, gives-done}
+use Rattle.script.specs.Script.{ok, no, run, _>>=_, done, over, over-run, goes, halts, gives-done}
 use Rattle.sound.specs.Checks.{isFree}
 use Rattle.sound.specs.Plans.{Plan, takeScript, giveBackScript, elsewhereScript}
 use Rattle.sound.specs.Constant.{back-reads}
@@ -22,7 +22,7 @@ use Rattle.slices.specs.Slices.{Slices, memoryOf, stores, AllValid}
 use Rattle.slices.specs.Kept.{stores-lengths}
 use Rattle.slices.specs.Stored.{stores-memory}
 use Rattle.slices.specs.Ample.{decoded-slices, all-valid}
-use Rattle.carry.specs.Carry.{shifted, carried, carried-parts}
+use Rattle.carry.specs.Carry.{shifted, carried-parts}
 use Rattle.tables.specs.Length.{LongEnough, long-ample}
 use Rattle.request.specs.Alignment.{power-beside}
 use Rattle.free_list.specs.Lent.{lent, held, classes, Long}

@@ -1,6 +1,6 @@
 -- The old block is left, once another was taken: the payload is carried and the block returned; or its return is refused,
 -- and the take is undone.
-use Prim.Native.Nat.{ℕ, _+_, _*_, _≤_, _<_}
+use Prim.Native.Nat.{ℕ, _+_, _*_, _≤_}
 use native.Mathlib.Omega.{arith}
 use mathlib.Core.Path.{_≡_, refl, ap, sym, _∙_}
 use mathlib.Core.List.{List}
@@ -10,7 +10,7 @@ use Rattle.script.specs.Memory.{Write}
 use Rattle.script.specs.Script.{ok, no, run}
 use Rattle.sound.specs.Plans.{Plan, giveBackScript}
 use Rattle.slices.specs.Decode.{grains, grains-le}
-use Rattle.slices.specs.Slices.{Slices, stores}
+use Rattle.slices.specs.Slices.{stores}
 use Rattle.carry.specs.Carry.{shifted}
 use Rattle.free_list.specs.Lent.{lent, held, classes}
 use Rattle.free_list.specs.Answers.{unless-no, unless-ok}

@@ -1,24 +1,23 @@
 -- The whole resize: the block of the payload, then in place, where it can be, and else the payload moves.
 use Prim.Native.Nat.{ℕ, _+_, _-_, _*_, _^_, _≤_, _<_}
 use native.Mathlib.Omega.{arith}
-use mathlib.Core.Path.{_≡_, refl, ap, sym, _∙_, subst}
+use mathlib.Core.Path.{_≡_, refl, sym, _∙_, subst}
 use mathlib.Core.List.{List, []}
 use mathlib.Core.Logic.{inl, inr}
 use lib.ListN.{length}
 use Rattle.definition.specs.Calls.{keeps}
 use Rattle.script.specs.Memory.{Memory}
-use Rattle.script.specs.Script.{Script, Result, ok, no, run, goes, halts}
+use Rattle.script.specs.Script.{Script, Result, run, goes, halts}
 use Rattle.sound.specs.Checks.{Owner, seeOwner}
 use Rattle.sound.specs.Checked.{FoundAt, owner-checked}
 use Rattle.sound.specs.Plans.{Plan, growScript, resizeScript}
 use Rattle.sound.specs.Runs.{Reply, yes}
 use Rattle.slices.specs.Decode.{grains}
-use Rattle.slices.specs.Slices.{Slices}
 use Rattle.header.specs.Turned.{grains-few}
-use Rattle.carry.specs.Carry.{carried, carried-still}
+use Rattle.carry.specs.Carry.{carried-still}
 use Rattle.tables.specs.Length.{LongEnough}
 use Rattle.free_list.specs.Lent.{lent, held, classes}
-use Rattle.free_list.specs.Answers.{unless, unless-no, unless-ok}
+use Rattle.free_list.specs.Answers.{unless-no, unless-ok}
 use Rattle.free_list.specs.Written.{Written}
 use Rattle.neighbours.specs.declared.Owner.{Owner as OwnerAnswer}
 use Rattle.neighbours.specs.Shown.{SeenOwner}

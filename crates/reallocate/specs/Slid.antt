@@ -6,7 +6,6 @@ use mathlib.Core.List.{List}
 use lib.ListN.{length}
 use Rattle.copy.specs.Moved.{moved}
 use Rattle.invariants.specs.Placing.{keeps-holds}
-use Rattle.script.specs.Memory.{Write}
 use Rattle.script.specs.Script.{run}
 use Rattle.sound.specs.Plans.{moveScript}
 use Rattle.sound.specs.Runs.{Reply, yes}
@@ -18,7 +17,7 @@ use Rattle.free_list.specs.Lent.{lent, held, classes, Long}
 use Rattle.free_list.specs.Written.{Written, WrittenLive, written-length, written-room}
 use Rattle.neighbours.specs.declared.Neighbour.{Neighbour}
 use Rattle.neighbours.specs.Leaving.{Known, bothLeaving}
-use Rattle.stretch.specs.Shown.{behindOf, Behind}
+use Rattle.stretch.specs.Shown.{behindOf}
 use Rattle.slide.specs.declared.Plan.{Plan as SlidePlan}
 use Rattle.slide.specs.Shown.{Able, Makeable, Slides, downWrites, slid, down-keep, makeable-keep, slide-refused, slide-down, slide-elsewhere}
 use Rattle.reallocate.specs.Left.{halves-inside}

@@ -1,7 +1,6 @@
 // A resize in half grains: in place, down into the free block before, or elsewhere; each step is planned and checked before
 // its first write. Only the return of the old block is checked after a write, the take's, which is undone where that return
 // is refused: so a refusal changes nothing.
-ghost use mathlib.Core.Path.{_≡_};
 ghost use Prim.Native.Nat.{_+_, _*_, _^_, _≤_, _<_};
 ghost use lib.ListN.{length as lengthOf};
 ghost use Rattle.slices.specs.Decode.{grains};
@@ -100,11 +99,9 @@ fn move_payload(
     }
     let u = 2 * (x + s) - q;
     if p.kind == SLID {
+        let to = 2 * p.at + p.place;
         slide_down(a, lists, live, q, u, p);
-        return Resized {
-            refusal: 0,
-            at: 2 * p.at + p.place,
-        };
+        return Resized { refusal: 0, at: to };
     }
     go_elsewhere(a, lists, live, q, u, length, multiple)
 }
@@ -190,12 +187,12 @@ fn leave_old(
     ensures { λ r. ⌜ Leaves (now (a .entry)) (now (lists .entry)) (now (live .entry)) q to u s r
         (now (a .exit)) (now (lists .exit)) (now (live .exit)) ⌝ }
 {
-    let p = deallocate::plan_back(a, lists, live, q);
-    if p.refusal != 0 {
+    let back = deallocate::plan_back(a, lists, live, q);
+    if back.refusal != 0 {
         undo::undo_take(a, lists, live, s);
-        return p.refusal;
+        return back.refusal;
     }
     copy::move_halves(a, q, to, u);
-    deallocate::apply_back(a, lists, live, q, p);
+    deallocate::apply_back(a, lists, live, q, back);
     0
 }

@@ -38,23 +38,23 @@ mul-u c =
 sub-u : tie.Need-sub-u
 sub-u c = search needs
 
+mul-to : tie.Need-mul-to
+mul-to c =
+    let s = c .before .before .before .before .before .before .before .before .before .before .before in
+    omega (arith, able (c .before) .makeable .inside, grains-few (s .args .a .now) (s .good .0 .0))
+
+add-to : tie.Need-add-to
+add-to c =
+    let s = c .before .before .before .before .before .before .before .before .before .before .before .before in
+    omega (arith, able (c .before .before) .makeable .pad, grains-few (s .args .a .now) (s .good .0 .0))
+
 slide-down-requires : tie.Need-slide-down-requires
 slide-down-requires c κs =
-    let i = c .before .before .before in
+    let i = c .before .before .before .before .before in
     let p = i .before .before .before .before in
     let s = p .before .before .before .before .before .before in
     slide-ready (s .args .a .now) (s .args .lists .now) (s .args .live .now) (s .args .q) (2 * (s .args .x + s .args .s) - s .args .q) (s .args .length) (p .plan-slide .result) (s .pre .1) (able i) (s .pre .3)
     (omega (arith, s .pre .4, s .pre .2 .inside)) (omega (arith, s .pre .5))
-
-mul-t26 : tie.Need-mul-t26
-mul-t26 c =
-    let s = c .before .before .before .before .before .before .before .before .before .before .before .before .before .before .before .before .before .before .before .before .before in
-    omega (arith, able (c .before .before .before .before .before .before .before .before .before .before .before) .makeable .inside, grains-few (s .args .a .now) (s .good .0 .0))
-
-add-t27 : tie.Need-add-t27
-add-t27 c =
-    let s = c .before .before .before .before .before .before .before .before .before .before .before .before .before .before .before .before .before .before .before .before .before .before in
-    omega (arith, able (c .before .before .before .before .before .before .before .before .before .before .before .before) .makeable .pad, grains-few (s .args .a .now) (s .good .0 .0))
 
 same-length-3 : tie.Need-same-length-3
 same-length-3 c = search needs
@@ -67,8 +67,8 @@ same-length-5 c = search needs
 
 returns-2 : tie.Need-returns-2
 returns-2 c =
-    let d = c .before .before .before .before .before .before .before .before in
-    let i = d .before .before .before .before in
+    let d = c .before .before .before .before .before .before in
+    let i = d .before .before .before .before .before .before in
     let p = i .before .before .before .before in
     let s = p .before .before .before .before .before .before .args in
     moves-down (s .a .now) (s .lists .now) (s .live .now) (s .q) (s .x) (s .s) (s .behind) (s .length) (s .multiple) (p .plan-slide .result) (p .plan-slide .ensures) (i .before .before .if1 .left) _ _ _ (i .if2 .taken) (d .slide-down .ensures)
@@ -104,9 +104,9 @@ move-payload-spec =
     add-u
     mul-u
     sub-u
+    mul-to
+    add-to
     slide-down-requires
-    mul-t26
-    add-t27
     same-length-3
     same-length-4
     same-length-5
