@@ -49,10 +49,6 @@ module _ (a : List ℕ) (c : ℕ) (r : PlanAnswer) where
   pub shown-refused : (w : ℕ) → r .refusal ≡ w → (w ≡ 0 → ⊥) → shownBehind a c r ≡ no w
   shown-refused w e n = ap (λ (u : ℕ). unless u (planOf a c r)) e ∙ unless-no w (planOf a c r) n
 
-  -- not refused
-  pub shown-planned : r .refusal ≡ 0 → shownBehind a c r ≡ ok (planOf a c r)
-  shown-planned e = unless-ok (r .refusal) (planOf a c r) e
-
 -- ---- what is asked for writing it
 
 -- a last piece of m grains at x can be laid out before h, if there is one

@@ -15,9 +15,7 @@ ghost use Rattle.give.specs.Last.{Row, SeenLast};
 ghost use Rattle.give.specs.Given.{Given};
 use bits::MAP_WORDS;
 use header::NONE;
-
-// The grains of a piece that is as long as a piece can be.
-const PIECE: usize = 4096;
+use region::PIECE;
 
 // The records contradict each other.
 const DAMAGED: usize = 5;

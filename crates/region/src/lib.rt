@@ -24,7 +24,7 @@ use header::SENTINEL;
 use header::SIZE;
 
 // The grains of a piece that is as long as a piece can be.
-const PIECE: usize = 4096;
+pub const PIECE: usize = 4096;
 
 // Answers: the table holds no more regions; the region is not one that can be given; the table can't be right.
 const FULL: usize = 6;
