@@ -27,6 +27,7 @@ use Rattle.request.specs.Returned.{Stands}
 use Rattle.calls.specs.Bytes.{ByteCall, allocate, deallocate, reallocate, range, unsuited, unkind, resize-range, resize-unsuited, resize-unkind, take, back, resize}
 use Rattle.calls.specs.Performs.{Long, grainsOf, mostOf, outcome, Early, short, wrong, outside, Goes, Performs, early, refused, granted, Stand}
 use Rattle.calls.specs.Refines.{Spare, asks-fair, behind-not-live}
+use Rattle.calls.specs.Room.{room-or-full}
 use Rattle.calls.specs.One.{asks-one, goes-late, performs-one}
 
 -- ---- never 5
@@ -43,12 +44,15 @@ early-not-5 S k i (Early.wrong j l (resize-unkind u v n)) e = omega arith
 early-not-5 S k i (outside K l a n) e = omega arith
 
 -- and the script's is none where the records are sound
-pub performs-never-5 : (S : Slices) (k : ByteCall) (r : Reply) (T : Slices) (h : Heap) → Stand S h → Spare S k → Performs S k r T → r ≡ not 5 → ⊥
-performs-never-5 S k r T h o f (early i a) e = early-not-5 S k i a cc
-performs-never-5 S k r T h o f (refused K i g q) e =
+pub performs-never-5 : (S : Slices) (k : ByteCall) (r : Reply) (T : Slices) (h : Heap) → Stand S h → Performs S k r T → r ≡ not 5 → ⊥
+performs-never-5 S k r T h o (early i a) e = early-not-5 S k i a cc
+performs-never-5 S k r T h o (refused K i g q) e =
     let z : i ≡ 5 = cc in
-    never-5 (grainsOf S) 12 (mostOf S) (memoryOf 8 S) h o (omega arith) K (asks-fair S k K f (g .asks)) (q ∙ ap no z)
-performs-never-5 S k r T h o f (granted K p g q) e = let z : _≡_ {A = ℕ} 0 1 = cc in omega arith
+    ⊎-elim
+    (λ (f : Spare S k). never-5 (grainsOf S) 12 (mostOf S) (memoryOf 8 S) h o (omega arith) K (asks-fair S k K f (g .asks)) (q ∙ ap no z))
+    (λ (f : outcome S K ≡ no 6). let u : i ≡ 6 = cc in omega arith)
+    (room-or-full S h o k K (g .asks))
+performs-never-5 S k r T h o (granted K p g q) e = let z : _≡_ {A = ℕ} 0 1 = cc in omega arith
 
 -- ---- a call that goes on is refused exactly where its script is
 

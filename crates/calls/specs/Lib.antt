@@ -6,6 +6,7 @@ pub mod Storable
 pub mod Fills
 pub mod Resizes
 pub mod Refines
+pub mod Room
 pub mod Begins
 pub mod Untouched
 pub mod Runs

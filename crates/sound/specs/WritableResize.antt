@@ -18,7 +18,7 @@ use Rattle.sound.specs.Writable.{Fits, Decoded, atLive, AllWritable, all
 use Rattle.sound.specs.WritableCalls.{Counted, take-writable, take-answer, Joined, behind-joined, before-joined, behind-inside, before-meets, leaves-writable, both-writable, back-writable}
 
 -- a payload stands behind its block's start
-after-start : (m : Memory) (q x : ℕ) → FoundAt m q x → 2 * x + 1 ≤ q
+pub after-start : (m : Memory) (q x : ℕ) → FoundAt m q x → 2 * x + 1 ≤ q
 after-start m q x (inl e) = omega (arith, e .0, e .1)
 after-start m q x (inr e) = omega (arith, e .2)
 
