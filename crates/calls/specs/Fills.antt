@@ -5,6 +5,7 @@ use native.Mathlib.Omega.{arith}
 use mathlib.Core.Path.{_≡_, ap, sym, subst}
 use mathlib.Core.List.{List}
 use lib.ListN.{length, getD}
+use Rattle.word.specs.Number.{num-same}
 use Rattle.word.specs.Word.{wordAt}
 use Rattle.definition.specs.Blocks.{Block, used}
 use Rattle.definition.specs.Calls.{Heap}
@@ -14,7 +15,6 @@ use Rattle.sound.specs.Filled.{NotPayload, Filled, filled-sound}
 use Rattle.slices.specs.Decode.{grains-keep}
 use Rattle.slices.specs.Slices.{Slices, memoryOf}
 use Rattle.slices.specs.Kept.{Lengths}
-use Rattle.copy.specs.Words.{num-same}
 use Rattle.carry.specs.Alike.{SameTables}
 use Rattle.carry.specs.Words.{word, field-word}
 use Rattle.calls.specs.Performs.{grainsOf, Stand}

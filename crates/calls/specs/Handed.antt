@@ -2,20 +2,16 @@
 -- same alignment. On slices that stand for a heap it was free, and no other block in use changes.
 use Prim.Native.Nat.{ℕ, _+_, _*_, _/_, _%_, _≤_}
 use native.Mathlib.Omega.{arith}
-use mathlib.Core.Path.{_≡_, refl, ap, sym, subst}
+use mathlib.Core.Path.{_≡_, refl, sym, subst}
 use mathlib.Core.Logic.{⊎-elim}
 use lib.ListN.{length}
 use Rattle.definition.specs.Units.{halves, multiple}
 use Rattle.definition.specs.Calls.{Heap, Answer, place}
-use Rattle.invariants.specs.Placing.{align-pos, place-some, keeps-holds, keeps-wanted}
 use Rattle.invariants.specs.Moves.{Ok}
 use Rattle.invariants.specs.Promises.{Granted, take-granted}
 use Rattle.script.specs.Script.{ok}
-use Rattle.sound.specs.Checks.{isFree}
 use Rattle.sound.specs.Plans.{Plan}
-use Rattle.sound.specs.TakeChecked.{TakeChecked, take-checked}
-use Rattle.sound.specs.Writable.{Fits}
-use Rattle.sound.specs.WritableCalls.{Counted}
+use Rattle.sound.specs.WritableCalls.{Counted, take-answer}
 use Rattle.sound.specs.WritableResize.{resize-storable}
 use Rattle.sound.specs.Calls.{Call, Take, Resize, answerOf}
 use Rattle.sound.specs.Runs.{Reply, yes, said, left}
@@ -41,20 +37,18 @@ pub record Within (S : Slices) (n a x : ℕ) : Type 0 where
   pub aligned : x % a ≡ 0
   pub returnable : Stands x a (x / 16)
 
-checked-within : (S : Slices) (n a : ℕ) (p : Plan) → InRange n a → TakeChecked (grainsOf S) 12 (halves 16 n) (multiple 16 a) (memoryOf 8 S) p → Within S n a (16 * p .answer)
-checked-within S n a p i t =
-    let u = multiple 16 a in
-    let y = t .y in
-    let e : p .answer ≡ 2 * y + place u y = ap (λ (v : Plan). v .answer) (t .plan) in
-    let g = align-pos u (multiple-align a (i .alignment .power)) in
-    let f : Fits (grainsOf S) y (isFree (t .s)) = subst (Fits (grainsOf S) y) (t .word) (decoded-slices 8 S y) in
-    let s = handed-suits a y (i .alignment) in
-    record {
-      low = omega (arith, e, place-some u y g);
-      inside = omega (arith, e, keeps-holds (place u y) (halves 16 n), keeps-wanted u y (halves 16 n) g, t .enough g, f .1, grains-le 8 (S .arena));
-      aligned = rw e (s .divides);
-      returnable = rw e (record { suits = s; kind = handed-kind a y (i .alignment); number = refl });
-    }
+-- v half grains behind the arena's start, with room for what was asked
+answer-within : (S : Slices) (n a v : ℕ) → 1 ≤ v → v + halves 16 n ≤ 2 * grainsOf S → Stands (16 * v) a v → Within S n a (16 * v)
+answer-within S n a v some long s = record {
+  low = omega arith;
+  inside = omega (arith, long, grains-le 8 (S .arena));
+  aligned = s .suits .divides;
+  returnable = record { suits = s .suits; kind = s .kind; number = refl };
+}
+
+-- a place counted from a block's start can be given back
+counted-stands : (n a v : ℕ) → InRange n a → Counted (multiple 16 a) v → Stands (16 * v) a v
+counted-stands n a v i k = rw (k .1) (record { suits = handed-suits a (k .0) (i .alignment); kind = handed-kind a (k .0) (i .alignment); number = omega arith })
 
 -- whatever a take answers that is no refusal is so
 pub allocate-within : (S : Slices) (n a : ℕ) (r : Reply) (T : Slices) → Performs S (allocate n a) r T → (x : ℕ) → r ≡ yes x → Within S n a x
@@ -63,23 +57,15 @@ allocate-within S n a r T (refused K i g f) x e = let z : _≡_ {A = ℕ} 0 1 = 
 allocate-within S n a r T (granted K p g f) x e = let z : 16 * p .answer ≡ x = cc in subst (Within S n a) z (go K (g .asks) f)
   where
     go : (K : Call) → Asks (allocate n a) K → outcome S K ≡ ok p → Within S n a (16 * p .answer)
-    go K (take i) f = checked-within S n a p i (take-checked (grainsOf S) 12 (halves 16 n) (multiple 16 a) (memoryOf 8 S) p f)
+    go K (take i) f =
+        let t = take-answer (grainsOf S) 12 (halves 16 n) (multiple 16 a) (memoryOf 8 S) p (decoded-slices 8 S) (multiple-align a (i .alignment .power)) f in
+        answer-within S n a (p .answer) (t .0) (t .1) (counted-stands n a (p .answer) i (t .2))
 
 -- what a resize answers lies so, too: the old place, or one counted anew
 resize-within : (S : Slices) (n a x q : ℕ) (p : Plan) → InRange n a → Stands x a q → outcome S (Resize q (halves 16 n) (multiple 16 a)) ≡ ok p → Within S n a (16 * p .answer)
 resize-within S n a x q p i s f =
-    let u = multiple 16 a in
-    let t = resize-storable (grainsOf S) 12 q (halves 16 n) u (memoryOf 8 S) (decoded-slices 8 S) (multiple-align a (i .alignment .power)) p f in
-    let w : Stands (16 * p .answer) a (p .answer) = ⊎-elim
-    (λ (k : p .answer ≡ q). rw (k, stands-offset s) s)
-    (λ (k : Counted u (p .answer)). rw (k .1) (record { suits = handed-suits a (k .0) (i .alignment); kind = handed-kind a (k .0) (i .alignment); number = omega arith }))
-    (t .from) in
-    record {
-      low = omega (arith, t .answer .0);
-      inside = omega (arith, t .long, grains-le 8 (S .arena));
-      aligned = w .suits .divides;
-      returnable = record { suits = w .suits; kind = w .kind; number = refl };
-    }
+    let t = resize-storable (grainsOf S) 12 q (halves 16 n) (multiple 16 a) (memoryOf 8 S) (decoded-slices 8 S) (multiple-align a (i .alignment .power)) p f in
+    answer-within S n a (p .answer) (t .some) (t .long) (⊎-elim (λ (k : p .answer ≡ q). rw (k, stands-offset s) s) (counted-stands n a (p .answer) i) (t .from))
 
 pub reallocate-within : (S : Slices) (x n a : ℕ) (r : Reply) (T : Slices) → Performs S (reallocate x n a) r T → (z : ℕ) → r ≡ yes z → Within S n a z
 reallocate-within S x n a r T p z e =

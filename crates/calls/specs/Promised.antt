@@ -102,11 +102,11 @@ carries-none S m =
     record { payload = 0; plan = p; is = sym (carried-still S 0 p refl); words = omega arith; bytes = omega arith }
 
 -- and else as much as its plan says
-resize-carries : (S : Slices) (x n a m : ℕ) (r : Reply) (T : Slices) → Performs S (reallocate x n a) r T
+carries-planned : (S : Slices) (x n a m : ℕ) (r : Reply) (T : Slices) → Performs S (reallocate x n a) r T
     → ((z : ℕ) → r ≡ yes z → (g : GrantedResize S x n a z T) → 16 * g .plan .moved ≤ m) → Carries 23 m S T
-resize-carries S x n a m r T (early i e) f = carries-none S m
-resize-carries S x n a m r T (refused K i g e) f = carries-none S m
-resize-carries S x n a m r T (granted K p g e) f =
+carries-planned S x n a m r T (early i e) f = carries-none S m
+carries-planned S x n a m r T (refused K i g e) f = carries-none S m
+carries-planned S x n a m r T (granted K p g e) f =
     let c = granted-resize S x n a r T (16 * p .answer) (granted K p g e) refl in
     record {
       payload = c .q;
@@ -138,8 +138,8 @@ pub reallocated : (S : Slices) (x n a : ℕ) (r : Reply) (T : Slices) → Sized 
 reallocated S x n a r T z p = record {
   promise = promised S (reallocate x n a) r T z p;
   reads = λ q. resize-reads (grainsOf S) 12 q (halves 16 n) (multiple 16 a);
-  writes = resize-carries S x n a n r T p (λ v e g. moved-new S x n a v T g);
-  moves = λ h o y s d b. resize-carries S x n a (32 * (y + s) - x) r T p (λ v e g. moved-old S x n a v T g h o y s d b);
+  writes = carries-planned S x n a n r T p (λ v e g. moved-new S x n a v T g);
+  moves = λ h o y s d b. carries-planned S x n a (32 * (y + s) - x) r T p (λ v e g. moved-old S x n a v T g h o y s d b);
   within = reallocate-within S x n a r T p;
   stays = λ h o y s d b e. reallocate-arrives S x n a r T h o p y s d (b .block) (b .offset) x e;
   arrives = λ h o y s d b v e. reallocate-arrives S x n a r T h o p y s d (b .block) (b .offset) v e;

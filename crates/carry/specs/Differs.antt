@@ -7,10 +7,10 @@ use mathlib.Core.List.{List, [], _∷_, _++_}
 use mathlib.Core.Logic.{_⊎_, inl, inr, ⊎-elim}
 use lib.ListN.{length, getD, take-append-drop, List·getD-eq-default}
 use Rattle.choice.specs.Choice.{le?}
-use Rattle.word.specs.Number.{num, Apart}
+use Rattle.word.specs.Number.{Apart, num-same}
 use Rattle.word.specs.Word.{wordAt}
 use Rattle.copy.specs.Moved.{moved, moved-arrived, moved-length}
-use Rattle.copy.specs.Words.{num-same, word-kept}
+use Rattle.copy.specs.Words.{word-kept}
 use Rattle.script.specs.Memory.{Size, Before, Next, Prev, none, Write}
 use Rattle.script.specs.Locality.{DiffersIn, same-after}
 use Rattle.sound.specs.Plans.{Plan}

@@ -1,14 +1,14 @@
 -- Bytes moved as words: to put the number that was read is to copy its bytes. And what a move does to the words of the
 -- list: one inside the target is the source's, one outside stays.
 use Prim.Native.Nat.{ℕ, zero, suc, _+_, _*_, _/_, _%_, _≤_, _<_}
-use native.Mathlib.Nat.{add-zero, add-assoc, mul-add}
+use native.Mathlib.Nat.{add-assoc, mul-add}
 use native.Mathlib.Omega.{arith}
 use mathlib.Core.Path.{_≡_, refl}
 use mathlib.Core.List.{List}
 use mathlib.Core.Logic.{inl, inr, ⊎-elim}
 use lib.ListN.{length, getD, set, length-set}
 use lib.Seq.{getD-set-same, getD-set-other}
-use Rattle.word.specs.Number.{num, puts, Apart}
+use Rattle.word.specs.Number.{num, puts, Apart, num-same}
 use Rattle.word.specs.Word.{wordAt}
 use Rattle.copy.specs.Copied.{Copied, copied-then}
 use Rattle.copy.specs.Moved.{Moved, moved, moved-arrived, moved-kept}
@@ -56,16 +56,6 @@ grain-moved a from to B =
     (copied-then {i = 16} (half-copied a from a to B) (half-copied a (from + 16) _ (to + 16) B))
 
 -- ---- the words of the list
-
--- a number is its bytes
-pub num-same : (n : ℕ) (a : List ℕ) (i : ℕ) (b : List ℕ) (j : ℕ) → ((k : ℕ) → k < n → getD a (i + k) 0 ≡ getD b (j + k) 0) → num n a i ≡ num n b j
-unfolding num
-num-same zero a i b j h = refl
-num-same (suc n) a i b j h =
-    let first : getD a i 0 ≡ getD b j 0 = simp add-zero at (h 0 (omega arith)) in
-    let rest : num n a (i + 1) ≡ num n b (j + 1) =
-    num-same n a (i + 1) b (j + 1) (λ k q. rw (add-assoc i 1 k, add-assoc j 1 k) (h (1 + k) (omega arith))) in
-    rw (first, rest)
 
 module _ (a : List ℕ) (from to n : ℕ) where
   -- a number inside the target is the source's

@@ -35,17 +35,17 @@ heard-no (suc i) x n = refl
 
 -- ---- the arena a, the lists l and the live bits v become b, m and o, whatever the regions are, which stay
 
-abbrev pub Carries : List ℕ → List ℕ → List ℕ → ℕ → Script Plan → Reply → List ℕ → List ℕ → List ℕ → Type 0
-Carries a l v q s r b m o = (t : List ℕ) → Does (lent a l v t) q (run (held a l v t) s) r (lent b m o t)
+abbrev pub Follows : List ℕ → List ℕ → List ℕ → ℕ → Script Plan → Reply → List ℕ → List ℕ → List ℕ → Type 0
+Follows a l v q s r b m o = (t : List ℕ) → Does (lent a l v t) q (run (held a l v t) s) r (lent b m o t)
 
 -- the payload at q, of which u half grains are carried, goes where p at a multiple of n are taken
 abbrev pub GoesElsewhere : List ℕ → List ℕ → List ℕ → ℕ → ℕ → ℕ → ℕ → Reply → List ℕ → List ℕ → List ℕ → Type 0
-GoesElsewhere a l v q u p n r b m o = Carries a l v q (elsewhereScript (grains 8 a) classes q p n u) r b m o
+GoesElsewhere a l v q u p n r b m o = Follows a l v q (elsewhereScript (grains 8 a) classes q p n u) r b m o
 
 -- the same payload, in the used block of s grains at x, behind which e was seen, moves down or elsewhere
 abbrev pub Moves : List ℕ → List ℕ → List ℕ → ℕ → ℕ → ℕ → Neighbour → ℕ → ℕ → Reply → List ℕ → List ℕ → List ℕ → Type 0
-Moves a l v q x s e p n r b m o = Carries a l v q (moveScript (grains 8 a) classes q p n x s (behindOf a e)) r b m o
+Moves a l v q x s e p n r b m o = Follows a l v q (moveScript (grains 8 a) classes q p n x s (behindOf a e)) r b m o
 
 -- the whole call
 abbrev pub Resizes : List ℕ → List ℕ → List ℕ → ℕ → ℕ → ℕ → Reply → List ℕ → List ℕ → List ℕ → Type 0
-Resizes a l v q p n r b m o = Carries a l v q (resizeScript (grains 8 a) classes q p n) r b m o
+Resizes a l v q p n r b m o = Follows a l v q (resizeScript (grains 8 a) classes q p n) r b m o

@@ -34,12 +34,12 @@ unfolding grains
 live-bit a l v q e h = omega (arith, e .bits)
 
 -- its payload stands behind its start, and not behind its end, which is in the arena
-pub record Holds (a : List ℕ) (q x s : ℕ) : Type 0 where
+pub record Seated (a : List ℕ) (q x s : ℕ) : Type 0 where
   pub inside : x + s < grains 8 a
   pub starts : 2 * x < q
   pub ends : q ≤ 2 * (x + s)
 
-pub owner-holds : (a v : List ℕ) (q : ℕ) (o : OwnerAnswer) → SeenOwner a v q o → o .refusal ≡ 0 → Holds a q (o .at) (o .grains)
+pub owner-holds : (a v : List ℕ) (q : ℕ) (o : OwnerAnswer) → SeenOwner a v q o → o .refusal ≡ 0 → Seated a q (o .at) (o .grains)
 owner-holds a v q o h e =
     let b : Owner = record { at = o .at; grains = o .grains } in
     let c = owner-checked (held a [] v []) q b (sym (h [] []) ∙ unless-ok (o .refusal) b e) in
@@ -49,7 +49,7 @@ owner-holds a v q o h e =
       ends = c .inside;
     }
 
-module _ (a : List ℕ) (q x s : ℕ) (h : Holds a q x s) where
+module _ (a : List ℕ) (q x s : ℕ) (h : Seated a q x s) where
   -- what it keeps can be counted
   pub keep-counts : (p : ℕ) → length a < 18446744073709551616 → p < 2 ^ 63 → q - 2 * x + p + 1 < 2 ^ 64
   keep-counts p f g = omega (arith, h .inside, h .ends, grains-few a f)

@@ -34,7 +34,7 @@ pub record Movable (n : ℕ) (m : Memory) (q p u : ℕ) : Type 0 where
 -- anew for the alignment a; what is moved from q is inside too, and fits at the answer
 pub record Storable (n c : ℕ) (m : Memory) (q p a : ℕ) (t : Plan) : Type 0 where
   pub writes : AllWritable n c (t .writes)
-  pub answer : (1 ≤ t .answer) × (t .answer ≤ 2 * n)
+  pub some : 1 ≤ t .answer
   pub long : t .answer + p ≤ 2 * n
   pub from : (t .answer ≡ q) ⊎ Counted a (t .answer)
   pub moved : (t .moved ≡ 0) ⊎ Movable n m q p (t .moved)
@@ -52,7 +52,7 @@ module _ (n c q p a : ℕ) (m : Memory) (d : Decoded n m) (al : Align a) (t : Pl
       let e = take-answer n c p a m (i .0) d al (i .1) in
       subst (Storable n c m q p a) (inv-done m _ t (j .2)) (record {
         writes = all-append n c w (j .0 .writes) k b;
-        answer = (e .0, omega (arith, e .1));
+        some = e .0;
         long = e .1;
         from = inr (e .2);
         moved = inr v;
@@ -73,7 +73,7 @@ module _ (n c q p a : ℕ) (m : Memory) (d : Decoded n m) (al : Align a) (t : Pl
           writes = all-append n c (j .0) _ (leave-writable n c m w z s (keeps e p) (j .0) b (keeps-some e p some) (i .0) h (j .1))
               (all-append n c (padWrites z e) _ (pad-writable n c z e s some (omega arith) h)
               (atLive {q = q} inside (omega arith), (atLive {q = 2 * z + e} (omega arith) (omega arith), tt)));
-          answer = (omega arith, omega arith);
+          some = omega arith;
           long = omega arith;
           from = inr (z, refl);
           moved = inr v;
@@ -105,7 +105,7 @@ module _ (n c q p a : ℕ) (m : Memory) (d : Decoded n m) (al : Align a) (t : Pl
           let j = inv-bind m (leaveScript n c (leaves b) x (s + roomOf b) (keeps e p)) _ (i .1) in
           subst (Storable n c m q p a) (inv-done m _ t (j .2)) (record {
             writes = leave-writable n c m (leaves b) x (s + roomOf b) (keeps e p) (j .0) (leaves-writable n c b jb) (keeps-some e p h) (i .0) (omega arith) (j .1);
-            answer = (omega arith, omega arith);
+            some = omega arith;
             long = omega (arith, keeps-holds e p, i .0);
             from = inl refl;
             moved = inl refl;
@@ -127,7 +127,7 @@ module _ (n c q p a : ℕ) (m : Memory) (d : Decoded n m) (al : Align a) (t : Pl
       ⊎-elim
       (λ j. subst (Storable n c m q p a) (inv-done m _ t (j .1)) (record {
         writes = tt;
-        answer = (omega arith, omega arith);
+        some = omega arith;
         long = omega (arith, keeps-holds (q - 2 * x) p, j .0, o .inside, f .1);
         from = inl refl;
         moved = inl refl;

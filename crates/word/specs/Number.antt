@@ -2,6 +2,7 @@
 -- Everything is said for any number of bytes, so a word of four bytes costs no law of its own.
 -- Both names are shut: who reads and writes words goes by the laws below and never sees a byte.
 use Prim.Native.Nat.{ℕ, zero, suc, _+_, _*_, _/_, _%_, _^_, _≤_, _<_}
+use native.Mathlib.Nat.{add-zero, add-assoc}
 use native.Mathlib.Omega.{arith}
 use mathlib.Core.Path.{_≡_, refl, _∙_}
 use mathlib.Core.List.{List}
@@ -22,6 +23,16 @@ puts (suc n) l i v = puts n (set l i (v % 256)) (i + 1) (v / 256)
 -- the n bytes from i and the m bytes from j have none in common
 abbrev pub Apart : ℕ → ℕ → ℕ → ℕ → Type 0
 Apart i n j m = (i + n ≤ j) ⊎ (j + m ≤ i)
+
+-- a number is its bytes
+pub num-same : (n : ℕ) (a : List ℕ) (i : ℕ) (b : List ℕ) (j : ℕ) → ((k : ℕ) → k < n → getD a (i + k) 0 ≡ getD b (j + k) 0) → num n a i ≡ num n b j
+unfolding num
+num-same zero a i b j h = refl
+num-same (suc n) a i b j h =
+    let first : getD a i 0 ≡ getD b j 0 = simp add-zero at (h 0 (omega arith)) in
+    let rest : num n a (i + 1) ≡ num n b (j + 1) =
+    num-same n a (i + 1) b (j + 1) (λ k q. rw (add-assoc i 1 k, add-assoc j 1 k) (h (1 + k) (omega arith))) in
+    rw (first, rest)
 
 -- putting a number keeps the length
 pub puts-length : (n : ℕ) (l : List ℕ) (i v : ℕ) → length (puts n l i v) ≡ length l

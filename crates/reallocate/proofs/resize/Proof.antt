@@ -2,13 +2,13 @@
 -- the move.
 use native.Mathlib.Omega.{arith}
 use Rattle.header.specs.Turned.{grains-few}
-use Rattle.reallocate.specs.Resize.{live-bit, Holds, owner-holds, keep-counts, carries-less, resize-unowned, resize-refused, resize-same, resize-fitted, resize-moved}
+use Rattle.reallocate.specs.Resize.{live-bit, Seated, owner-holds, keep-counts, carries-less, resize-unowned, resize-refused, resize-same, resize-fitted, resize-moved}
 use borrow.Author.Needs.{needs}
 use Rattle.reallocate.proofs.resize.Statement.{statement}
 use Rattle.reallocate.proofs.resize.Tie as tie
 
 -- the payload is in its block, and the block in the arena
-holds : (c : tie.Else1) → let o = c .before .before in let s = o .before .before .before .before .before .before .args in Holds (s .a .now) (s .q) (o .see-owner .result .at) (o .see-owner .result .grains)
+holds : (c : tie.Else1) → let o = c .before .before in let s = o .before .before .before .before .before .before .args in Seated (s .a .now) (s .q) (o .see-owner .result .at) (o .see-owner .result .grains)
 holds c =
     let o = c .before .before in
     let s = o .before .before .before .before .before .before .args in
