@@ -110,11 +110,13 @@ impl<'a> Arena<'a> {
         }
     }
 
+    #[inline]
     pub(crate) fn len(&self) -> usize {
         self.len
     }
 
     /// The first byte.
+    #[inline]
     pub(crate) fn start(&self) -> NonNull<u8> {
         self.start
     }
@@ -196,6 +198,7 @@ pub(crate) fn append_free_block(
     }
 }
 
+#[inline]
 pub(crate) fn allocate(arena: &mut Arena<'_>, lists: &mut [u64], live: &mut [u64], size: usize, align: usize) -> u64 {
     // SAFETY: pointers and lengths are those of slices that don't overlap, as said above.
     unsafe {
@@ -212,6 +215,7 @@ pub(crate) fn allocate(arena: &mut Arena<'_>, lists: &mut [u64], live: &mut [u64
     }
 }
 
+#[inline]
 pub(crate) fn deallocate(
     arena: &mut Arena<'_>,
     lists: &mut [u64],
@@ -234,6 +238,7 @@ pub(crate) fn deallocate(
     }
 }
 
+#[inline]
 pub(crate) fn reallocate(
     arena: &mut Arena<'_>,
     lists: &mut [u64],

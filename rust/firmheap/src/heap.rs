@@ -83,6 +83,7 @@ impl<'a> Heap<'a> {
     ///
     /// Refused with [`Refusal::NoList`] where no free block is sure to be large enough, with [`Refusal::OutOfRange`], with
     /// [`Refusal::Damaged`], and with [`Refusal::TooShort`] (see [`Heap::resume`]).
+    #[inline]
     pub fn allocate_at(&mut self, size: usize, align: usize) -> Result<usize, Refusal> {
         number(ffi::allocate(&mut self.arena, self.lists, self.live, size, align))
     }
@@ -92,6 +93,7 @@ impl<'a> Heap<'a> {
     ///
     /// Refused with [`Refusal::OutOfRange`] where the alignment can't be that, with [`Refusal::NotLive`] where no live
     /// payload starts at `offset`, with [`Refusal::Damaged`], and with [`Refusal::TooShort`] (see [`Heap::resume`]).
+    #[inline]
     pub fn deallocate_at(&mut self, offset: usize, align: usize) -> Result<(), Refusal> {
         done(ffi::deallocate(&mut self.arena, self.lists, self.live, offset, align))
     }
@@ -100,6 +102,7 @@ impl<'a> Heap<'a> {
     /// bytes as it had and keeps are the same there; where it moved, the old offset is no payload any more.
     ///
     /// Refused as a take or a return is, and the payload is then as it was.
+    #[inline]
     pub fn reallocate_at(&mut self, offset: usize, size: usize, align: usize) -> Result<usize, Refusal> {
         number(ffi::reallocate(
             &mut self.arena,
@@ -176,6 +179,7 @@ const HALF_GRAIN: usize = 16;
 const USED: usize = 1;
 
 /// An answer that is a number, or a refusal.
+#[inline]
 pub(crate) fn number(answer: u64) -> Result<usize, Refusal> {
     match Refusal::of(answer) {
         Some(why) => Err(why),
@@ -184,6 +188,7 @@ pub(crate) fn number(answer: u64) -> Result<usize, Refusal> {
 }
 
 /// An answer that says that it is done, or a refusal.
+#[inline]
 pub(crate) fn done(answer: u64) -> Result<(), Refusal> {
     number(answer).map(|_| ())
 }

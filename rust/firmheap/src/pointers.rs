@@ -35,17 +35,20 @@ impl Heap<'_> {
     /// to who uses it: the heap's own calls never need it. A reference that is made of it may live through calls that take,
     /// return, resize and give; but not through [`Heap::arena`], [`Heap::payload`] and [`Heap::payload_mut`], which make
     /// references to the same bytes.
+    #[inline]
     pub fn allocate(&mut self, layout: Layout) -> Option<NonNull<u8>> {
         self.try_allocate(layout).ok()
     }
 
     /// Returns a payload. Of a refusal nothing is told: what is no live payload is left alone. [`Heap::try_deallocate`] tells.
+    #[inline]
     pub fn deallocate(&mut self, payload: NonNull<u8>, align: usize) {
         let _ = self.try_deallocate(payload, align);
     }
 
     /// Makes a payload one of another size, with the alignment it has: where it is, or elsewhere with its bytes. None is a
     /// refusal: the payload is then as it was.
+    #[inline]
     pub fn reallocate(&mut self, payload: NonNull<u8>, layout: Layout) -> Option<NonNull<u8>> {
         self.try_reallocate(payload, layout).ok()
     }
@@ -66,6 +69,7 @@ impl Heap<'_> {
 
     /// [`Heap::allocate`], with the reason of a refusal. An alignment that the arena's address is no multiple of is refused
     /// with [`Refusal::OutOfRange`]: offsets are aligned, and an address is so only where the arena's is.
+    #[inline]
     pub fn try_allocate(&mut self, layout: Layout) -> Result<NonNull<u8>, Refusal> {
         self.suits(layout.align())?;
         let offset = self.allocate_at(layout.size(), layout.align())?;
@@ -74,12 +78,14 @@ impl Heap<'_> {
 
     /// [`Heap::deallocate`], with the reason of a refusal: [`Refusal::NotLive`] where the pointer leads out of the arena, and
     /// else as [`Heap::deallocate_at`].
+    #[inline]
     pub fn try_deallocate(&mut self, payload: NonNull<u8>, align: usize) -> Result<(), Refusal> {
         let offset = self.offset_of(payload).ok_or(Refusal::NotLive)?;
         self.deallocate_at(offset, align)
     }
 
     /// [`Heap::reallocate`], with the reason of a refusal.
+    #[inline]
     pub fn try_reallocate(&mut self, payload: NonNull<u8>, layout: Layout) -> Result<NonNull<u8>, Refusal> {
         self.suits(layout.align())?;
         let offset = self.offset_of(payload).ok_or(Refusal::NotLive)?;
@@ -95,6 +101,7 @@ impl Heap<'_> {
     }
 
     /// The offset that a pointer has in the arena; none where it leads out of it. The pointer is not followed.
+    #[inline]
     pub fn offset_of(&self, pointer: NonNull<u8>) -> Option<usize> {
         let start = self.arena.start().as_ptr() as usize;
         let offset = (pointer.as_ptr() as usize).checked_sub(start)?;
@@ -103,15 +110,18 @@ impl Heap<'_> {
 
     /// An offset that a granted call answered lies in the arena, so this is never null; where it were, it is the arena's
     /// first byte, which is no payload.
+    #[inline]
     fn pointer_to(&self, offset: usize) -> NonNull<u8> {
         let start = self.arena.start();
         NonNull::new(start.as_ptr().wrapping_add(offset)).unwrap_or(start)
     }
 
     /// Whether offsets at multiples of `align` are addresses at multiples of it.
+    #[inline]
     fn suits(&self, align: usize) -> Result<(), Refusal> {
-        match (self.arena.start().as_ptr() as usize).checked_rem(align) {
-            Some(0) => Ok(()),
+        // The alignment of a layout is a power of two, so that a mask does, and no division.
+        match self.arena.start().as_ptr() as usize & align.wrapping_sub(1) {
+            0 => Ok(()),
             _ => Err(Refusal::OutOfRange),
         }
     }

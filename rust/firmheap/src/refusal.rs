@@ -38,6 +38,7 @@ impl Refusal {
     }
 
     /// The refusal that an answer is, if it is one.
+    #[inline]
     pub const fn of(answer: u64) -> Option<Refusal> {
         match answer {
             1 => Some(Refusal::NoList),
