@@ -17,6 +17,8 @@ const USAGE: &str = "usage: PROGRAM [OPTION ..]
   --runs N          how many times each candidate makes them, in turn: 5
   --candidate NAME  this candidate alone, and no heap at all
   --svg FILE        a picture of the times, too
+  --record FILE     the recorded calls with their answers go to FILE, and nothing is measured: tests/c/recorded.c makes them
+                    on another machine's library
   --instructions    instructions per call in place of times, by valgrind
   --count KIND      one replay of --candidate in which calls of KIND (take, return, resize) go through the function
                     `observed`; it prints nothing. So that this can be looked at under another program:
@@ -31,6 +33,7 @@ struct Wanted {
     runs: usize,
     candidate: Option<String>,
     svg: Option<String>,
+    record: Option<String>,
     instructions: bool,
     count: Option<Kind>,
 }
@@ -57,6 +60,7 @@ fn wanted(words: &[String]) -> Result<Wanted, String> {
         runs: 5,
         candidate: None,
         svg: None,
+        record: None,
         instructions,
         count: None,
     };
@@ -73,6 +77,7 @@ fn wanted(words: &[String]) -> Result<Wanted, String> {
             "--runs" => wanted.runs = number(value()?)?.max(1) as usize,
             "--candidate" => wanted.candidate = Some(value()?.clone()),
             "--svg" => wanted.svg = Some(value()?.clone()),
+            "--record" => wanted.record = Some(value()?.clone()),
             "--count" => {
                 let name = value()?;
                 let kind = Kind::ALL.into_iter().find(|kind| kind.name() == name);
@@ -92,6 +97,9 @@ fn work(wanted: &Wanted, candidates: impl Fn(usize) -> Vec<Box<dyn Replay>>) -> 
     let profile = wanted.profile;
     eprintln!("bench: recording {} calls of {}", wanted.calls, profile.name);
     let record = Record::of(profile, wanted.seed, wanted.calls)?;
+    if let Some(file) = &wanted.record {
+        return fs::write(file, record.bytes()).map_err(|why| format!("{file}: {why}"));
+    }
     let mut candidates = candidates(record.arena);
     if let Some(name) = &wanted.candidate {
         let all: Vec<_> = candidates.iter().map(|candidate| candidate.name()).collect();

@@ -76,6 +76,19 @@ impl Record {
         Ok(Record { digest: last, ..made })
     }
 
+    /// The calls with their answers, for another program: of each its kind, the logarithm of its alignment, its slot, its
+    /// size and its answer, in 1, 1, 2, 4 and 4 bytes, lowest first.
+    pub fn bytes(&self) -> Vec<u8> {
+        let mut all = Vec::with_capacity(12 * self.calls.len());
+        for (call, answer) in self.calls.iter().zip(&self.answers) {
+            all.extend([call.kind as u8, call.log_align]);
+            all.extend(call.slot.to_le_bytes());
+            all.extend(call.size.to_le_bytes());
+            all.extend(answer.to_le_bytes());
+        }
+        all
+    }
+
     /// How many calls of a kind there are.
     pub fn count(&self, kind: Kind) -> usize {
         self.calls.iter().filter(|call| call.kind == kind).count()
