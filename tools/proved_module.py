@@ -18,8 +18,9 @@ KEPT = os.path.join(TOP, 'target/archive')
 # A helper that two functions call is not inlined by itself, nor one behind several early returns, which count as cold.
 INLINED = ['-mllvm', '-inline-threshold=10000', '-mllvm', '-inline-cold-callsite-threshold=10000']
 
-# A loop that fills or copies stays a loop, and does not become a call of memset, memcpy or memmove.
-NO_CALLS = ['-mllvm', '-disable-loop-idiom-all']
+# A loop that fills or copies stays a loop, and does not become a call of memset, memcpy or memmove. Nor does it become several,
+# by whether what is read and written overlaps: docs/SPEED.md says what that would cost on aarch64.
+LOOPS = ['-mllvm', '-disable-loop-idiom-all', '-fno-vectorize']
 
 # As rt staticlib does it.
 ALWAYS = ['-O3', '-fPIC', '-ffunction-sections', '-fdata-sections', '-mllvm', '-trap-unreachable', '-mllvm',
