@@ -1,6 +1,7 @@
 //! What the command line asks for, and doing it. The program says which candidates there are.
 
-use crate::candidate::Replay;
+use crate::beside::Beside;
+use crate::candidate::{Candidate, Replay};
 use crate::instructions;
 use crate::measure::measure;
 use crate::picture::picture;
@@ -16,6 +17,7 @@ const USAGE: &str = "usage: PROGRAM [OPTION ..]
   --calls N         how many calls of the rule are recorded: 10,000,000; with --instructions 200,000
   --runs N          how many times each candidate makes them, in turn: 5
   --candidate NAME  this candidate alone, and no heap at all
+  --beside FILE     the heap of another build, too, as a shared library; may be given several times
   --svg FILE        a picture of the times, too
   --record FILE     the recorded calls with their answers go to FILE, and nothing is measured: tests/c/recorded.c makes them
                     on another machine's library
@@ -32,6 +34,7 @@ struct Wanted {
     calls: u64,
     runs: usize,
     candidate: Option<String>,
+    beside: Vec<String>,
     svg: Option<String>,
     record: Option<String>,
     instructions: bool,
@@ -59,6 +62,7 @@ fn wanted(words: &[String]) -> Result<Wanted, String> {
         calls: if instructions { 200_000 } else { 10_000_000 },
         runs: 5,
         candidate: None,
+        beside: Vec::new(),
         svg: None,
         record: None,
         instructions,
@@ -76,6 +80,7 @@ fn wanted(words: &[String]) -> Result<Wanted, String> {
             "--calls" => wanted.calls = number(value()?)?.max(1),
             "--runs" => wanted.runs = number(value()?)?.max(1) as usize,
             "--candidate" => wanted.candidate = Some(value()?.clone()),
+            "--beside" => wanted.beside.push(value()?.clone()),
             "--svg" => wanted.svg = Some(value()?.clone()),
             "--record" => wanted.record = Some(value()?.clone()),
             "--count" => {
@@ -101,6 +106,9 @@ fn work(wanted: &Wanted, candidates: impl Fn(usize) -> Vec<Box<dyn Replay>>) -> 
         return fs::write(file, record.bytes()).map_err(|why| format!("{file}: {why}"));
     }
     let mut candidates = candidates(record.arena);
+    for file in &wanted.beside {
+        candidates.push(Box::new(Candidate::new(Beside::open(file, record.arena)?)));
+    }
     if let Some(name) = &wanted.candidate {
         let all: Vec<_> = candidates.iter().map(|candidate| candidate.name()).collect();
         if !all.contains(&name.as_str()) {
@@ -120,18 +128,10 @@ fn work(wanted: &Wanted, candidates: impl Fn(usize) -> Vec<Box<dyn Replay>>) -> 
         profile.name, wanted.seed, wanted.calls, record.refused, record.digest
     );
     if wanted.instructions {
-        let arguments = [
-            "--profile",
-            profile.name,
-            "--seed",
-            &wanted.seed.to_string(),
-            "--calls",
-            &wanted.calls.to_string(),
-        ];
-        print!(
-            "{}",
-            instructions::count(&record, &candidates, &arguments.map(String::from))?
-        );
+        let (seed, calls) = (wanted.seed.to_string(), wanted.calls.to_string());
+        let mut arguments = vec!["--profile", profile.name, "--seed", &seed, "--calls", &calls];
+        arguments.extend(wanted.beside.iter().flat_map(|file| ["--beside", file]));
+        print!("{}", instructions::count(&record, &candidates, &arguments)?);
         return Ok(());
     }
     let times = measure(&record, &mut candidates, wanted.runs)?;

@@ -7,7 +7,7 @@ use crate::table::lined_up;
 use std::process::{Command, Stdio};
 use std::{env, fs, process};
 
-pub fn count(record: &Record, candidates: &[Box<dyn Replay>], arguments: &[String]) -> Result<String, String> {
+pub fn count(record: &Record, candidates: &[Box<dyn Replay>], arguments: &[&str]) -> Result<String, String> {
     let mut head = vec!["instructions per call".to_string()];
     head.extend(Kind::ALL.map(|kind| kind.name().to_string()));
     head.push("all".into());
@@ -34,7 +34,7 @@ pub fn count(record: &Record, candidates: &[Box<dyn Replay>], arguments: &[Strin
 }
 
 /// The instructions of all calls of a kind.
-fn counted(candidate: &str, kind: Kind, arguments: &[String]) -> Result<u64, String> {
+fn counted(candidate: &str, kind: Kind, arguments: &[&str]) -> Result<u64, String> {
     let own = env::current_exe().map_err(|why| why.to_string())?;
     let file = env::temp_dir().join(format!("bench-callgrind-{}", process::id()));
     let status = Command::new("valgrind")

@@ -2,10 +2,12 @@
 //! the crate `yardstick` does the same with rlsf, which comes from the registry.
 
 pub mod arenas;
+pub mod beside;
 pub mod candidate;
 pub mod command;
 pub mod instructions;
 pub mod lent;
+pub mod library;
 pub mod malloc;
 pub mod measure;
 pub mod picture;

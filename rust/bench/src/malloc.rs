@@ -5,17 +5,9 @@
 //! Rust's standard library does it, since realloc may forget them.
 
 use crate::candidate::Heap;
-use std::ffi::{c_char, c_int, c_void, CStr};
+use crate::library::functions;
+use std::ffi::{c_int, c_void, CStr};
 use std::{mem, ptr};
-
-extern "C" {
-    fn dlopen(file: *const c_char, mode: c_int) -> *mut c_void;
-    fn dlsym(library: *mut c_void, name: *const c_char) -> *mut c_void;
-    fn dlerror() -> *const c_char;
-}
-
-/// All symbols are looked up when the library is opened, and no other code sees them.
-const RTLD_NOW: c_int = 2;
 
 /// The alignment that malloc gives.
 const OWN_ALIGNMENT: usize = 16;
@@ -73,41 +65,19 @@ pub fn families() -> Vec<Family> {
     let mut families = Vec::new();
     for place in &PLACES {
         match found(place) {
-            Some(family) => families.push(family),
-            None => eprintln!("bench: {} is left out: {}", place.name, complaint()),
+            Ok(family) => families.push(family),
+            Err(why) => eprintln!("bench: {} is left out: {why}", place.name),
         }
     }
     families
 }
 
-/// Why the last library or symbol was not found.
-fn complaint() -> String {
-    // SAFETY: the answer is null, or a text that lasts until the next call of its kind.
-    unsafe {
-        let words = dlerror();
-        if words.is_null() {
-            return "no reason is known".into();
-        }
-        CStr::from_ptr(words).to_string_lossy().into_owned()
-    }
-}
-
-fn found(place: &Place) -> Option<Family> {
-    let file = place.library.map_or(ptr::null(), CStr::as_ptr);
-    // SAFETY: the name ends with a zero. The libraries have no effect when they are opened, but to make themselves ready.
-    let library = unsafe { dlopen(file, RTLD_NOW) };
-    if library.is_null() {
-        return None;
-    }
-    // SAFETY: the library is open, and stays so.
-    let symbols = place.functions.map(|name| unsafe { dlsym(library, name.as_ptr()) });
-    if symbols.iter().any(|symbol| symbol.is_null()) {
-        return None;
-    }
-    let [malloc, posix_memalign, realloc, free, usable_size] = symbols;
+fn found(place: &Place) -> Result<Family, String> {
+    // SAFETY: the libraries have no effect when they are opened, but to make themselves ready.
+    let [malloc, posix_memalign, realloc, free, usable_size] = unsafe { functions(place.library, place.functions) }?;
     // SAFETY: these are the functions of these names, of which C says the types.
     unsafe {
-        Some(Family {
+        Ok(Family {
             name: place.name,
             malloc: mem::transmute::<*mut c_void, Malloc>(malloc),
             posix_memalign: mem::transmute::<*mut c_void, PosixMemalign>(posix_memalign),
