@@ -22,6 +22,12 @@ INLINED = ['-mllvm', '-inline-threshold=10000', '-mllvm', '-inline-cold-callsite
 # by whether what is read and written overlaps: docs/SPEED.md says what that would cost on aarch64.
 LOOPS = ['-mllvm', '-disable-loop-idiom-all', '-fno-vectorize']
 
+# What several paths end with stays in each of them: the cases of a return, which are told apart once, are not joined again.
+APART = ['-mllvm', '-sink-common-insts=false']
+
+# On x86-64 two tests stay two jumps, and don't become two numbers, their sum and one jump.
+TWO_JUMPS = ['-mllvm', '-x86-br-merging-base-cost=-1']
+
 # As rt staticlib does it.
 ALWAYS = ['-O3', '-fPIC', '-ffunction-sections', '-fdata-sections', '-mllvm', '-trap-unreachable', '-mllvm',
           '-no-trap-after-noreturn', '--no-default-config', '-no-canonical-prefixes', '-fno-crash-diagnostics',
@@ -30,9 +36,9 @@ ALWAYS = ['-O3', '-fPIC', '-ffunction-sections', '-fdata-sections', '-mllvm', '-
 # The targets of tools/archive, and the flags that one has beside these. Where no system is below the heap, it keeps off the
 # vector registers, and on x86-64 off the memory below the stack's end, which an interrupt overwrites.
 TARGETS = {
-    'x86_64-unknown-linux-gnu': [],
+    'x86_64-unknown-linux-gnu': TWO_JUMPS,
     'aarch64-unknown-linux-gnu': [],
-    'x86_64-none-elf': ['-mgeneral-regs-only', '-mllvm', '-force-attribute=noredzone'],
+    'x86_64-none-elf': [*TWO_JUMPS, '-mgeneral-regs-only', '-mllvm', '-force-attribute=noredzone'],
     'aarch64-none-elf': ['-mgeneral-regs-only'],
     'riscv64-none-elf': ['-march=rv64imac', '-mabi=lp64'],
 }
