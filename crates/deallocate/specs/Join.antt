@@ -17,11 +17,11 @@ use Rattle.free_list.specs.Lent.{held, classes, link}
 use Rattle.free_list.specs.Answers.{answer, unless}
 use Rattle.free_list.specs.Seen.{shownHead}
 use Rattle.free_list.specs.declared.Head.{Head}
-use Rattle.neighbours.specs.Shown.{shownOwner, shownBeside}
+use Rattle.neighbours.specs.Shown.{shownOwner, SeenBehind, SeenBefore}
 use Rattle.neighbours.specs.declared.Owner.{Owner as OwnerAnswer}
 use Rattle.neighbours.specs.declared.Beside.{Beside as BesideAnswer}
 use Rattle.neighbours.specs.declared.Neighbour.{Neighbour}
-use Rattle.neighbours.specs.Leaving.{bothLeaving, listed, firstOf, secondOf, seenOf, room-is, both-leave}
+use Rattle.neighbours.specs.Leaving.{bothLeaving, firstOf, secondOf, seenOf, room-is, both-leave}
 use Rattle.deallocate.specs.Shown.{mergeScript}
 
 -- ---- the list of the joined block, of g grains at z
@@ -54,31 +54,30 @@ module _ (a l v t : List ℕ) (q z g k : ℕ) (w : List Write) (e : k ≡ listOf
 
 -- ---- the neighbours
 
-module _ (a l v t : List ℕ) (q x s : ℕ) (e : BesideAnswer) (p : shownBeside a e ≡ run (held a l v t) (seeBehind (grains 8 a) classes (x + s))) where
+module _ (a l v t : List ℕ) (q x s : ℕ) (e : BesideAnswer) (p : SeenBehind a l (x + s) e) where
   -- what is behind doesn't agree
   pub merge-behind-out : e .ok ≡ false → no 5 ≡ run (held a l v t) (mergeScript (grains 8 a) q x s)
-  merge-behind-out o = sym (halts (held a l v t) (seeBehind (grains 8 a) classes (x + s)) _ (sym p ∙ ap (λ (b : Bool). answer b (seenOf a e)) o))
+  merge-behind-out o = sym (halts (held a l v t) (seeBehind (grains 8 a) classes (x + s)) _ (sym (p .answer v t) ∙ ap (λ (b : Bool). answer b (seenOf a e)) o))
 
-  module _ (o : e .ok ≡ true) (f : BesideAnswer) (d : shownBeside a f ≡ run (held a l v t) (seeBefore (grains 8 a) classes x)) where
+  module _ (o : e .ok ≡ true) (f : BesideAnswer) (d : SeenBefore a l x f) where
     merge-behind : run (held a l v t) (mergeScript (grains 8 a) q x s) ≡ run (held a l v t) (seeBefore (grains 8 a) classes x >>= (λ b.
         joinScript (grains 8 a) classes q (x - roomOf b) (roomOf b + (s + roomOf (seenOf a e))) (bothLeave (seenOf a e) (x - roomOf b) b)))
-    merge-behind = goes (held a l v t) (seeBehind (grains 8 a) classes (x + s)) _ (sym p ∙ ap (λ (b : Bool). answer b (seenOf a e)) o)
+    merge-behind = goes (held a l v t) (seeBehind (grains 8 a) classes (x + s)) _ (sym (p .answer v t) ∙ ap (λ (b : Bool). answer b (seenOf a e)) o)
 
     -- what is before doesn't
     pub merge-before-out : f .ok ≡ false → no 5 ≡ run (held a l v t) (mergeScript (grains 8 a) q x s)
-    merge-before-out c = sym (merge-behind ∙ halts (held a l v t) (seeBefore (grains 8 a) classes x) _ (sym d ∙ ap (λ (b : Bool). answer b (seenOf a f)) c))
+    merge-before-out c = sym (merge-behind ∙ halts (held a l v t) (seeBefore (grains 8 a) classes x) _ (sym (d .answer v t) ∙ ap (λ (b : Bool). answer b (seenOf a f)) c))
 
-    -- both do: the one behind is in list k
-    pub merged : f .ok ≡ true → length a < 18446744073709551616 → x - f .grains < grains 8 a → (k : ℕ) → k ≡ listed (e .grains)
-        → (b : Neighbour) → b ≡ secondOf (firstOf e k) (x - f .grains) f
-        → run (held a l v t) (joinScript (grains 8 a) classes q (x - f .grains) (f .grains + (s + e .grains)) (bothLeaving a (firstOf e k) b))
+    -- both do
+    pub merged : f .ok ≡ true → length a < 18446744073709551616 → x - f .grains < grains 8 a → (b : Neighbour) → b ≡ secondOf (firstOf e) (x - f .grains) f
+        → run (held a l v t) (joinScript (grains 8 a) classes q (x - f .grains) (f .grains + (s + e .grains)) (bothLeaving a (firstOf e) b))
         ≡ run (held a l v t) (mergeScript (grains 8 a) q x s)
-    merged c few h k g b i = sym (
-        merge-behind ∙ goes (held a l v t) (seeBefore (grains 8 a) classes x) _ (sym d ∙ ap (λ (b : Bool). answer b (seenOf a f)) c)
+    merged c few h b i = sym (
+        merge-behind ∙ goes (held a l v t) (seeBefore (grains 8 a) classes x) _ (sym (d .answer v t) ∙ ap (λ (b : Bool). answer b (seenOf a f)) c)
         ∙ ap (λ (r : ℕ). run (held a l v t) (joinScript (grains 8 a) classes q (x - r) (r + (s + roomOf (seenOf a e))) (bothLeave (seenOf a e) (x - r) (seenOf a f)))) (room-is (f .grains) _)
         ∙ ap (λ (r : ℕ). run (held a l v t) (joinScript (grains 8 a) classes q (x - f .grains) (f .grains + (s + r)) (bothLeave (seenOf a e) (x - f .grains) (seenOf a f)))) (room-is (e .grains) _)
         ∙ ap (λ (w : List Write). run (held a l v t) (joinScript (grains 8 a) classes q (x - f .grains) (f .grains + (s + e .grains)) w))
-        (both-leave a (firstOf e k) f (x - f .grains) few h g ∙ ap (bothLeaving a (firstOf e k)) (sym i)))
+        (both-leave a (firstOf e) f (x - f .grains) few h (p .list) (d .list) ∙ ap (bothLeaving a (firstOf e)) (sym i)))
 
 -- ---- the owner
 

@@ -61,7 +61,7 @@ fn plan_merge(a: &[u8], lists: &[u64], x: usize, s: usize) -> Plan
     let z = x - f.grains;
     let behind = Neighbour {
         grains: e.grains,
-        list: neighbours::list_of(e.grains),
+        list: e.list,
         next: e.next,
         prev: e.prev,
     };

@@ -25,7 +25,7 @@ use Rattle.free_list.specs.Answers.{answer}
 use Rattle.free_list.specs.Seen.{shownEntry}
 use Rattle.free_list.specs.declared.Entry.{Entry as EntryAnswer}
 use Rattle.neighbours.specs.declared.Beside.{Beside as BesideAnswer}
-use Rattle.neighbours.specs.Shown.{before-read, before-link, link-from, alone, shownBeside, someone, someone-is}
+use Rattle.neighbours.specs.Shown.{before-read, before-link, link-from, alone, shownBeside, someone, someone-is, SeenBeside}
 
 -- ---- a free block in the list of its size
 
@@ -37,7 +37,7 @@ seeListed n t y = do
 
 -- the answer on t grains at y is that of the script
 abbrev pub SeenListed : List ℕ → List ℕ → ℕ → ℕ → BesideAnswer → Type 0
-SeenListed a l t y r = (v u : List ℕ) → shownBeside a r ≡ run (held a l v u) (seeListed (grains 8 a) t y)
+SeenListed a l t y r = SeenBeside a l (seeListed (grains 8 a) t y) r
 
 module _ (a l v r : List ℕ) (t y k : ℕ) (j : k ≡ listOf t) where
   -- the size has no list
@@ -46,7 +46,7 @@ module _ (a l v r : List ℕ) (t y k : ℕ) (j : k ≡ listOf t) where
 
   -- the rest hangs on the list
   pub listed-entry : k < lists → 1 ≤ t → (e : EntryAnswer) → shownEntry a e ≡ run (held a l v r) (seeEntry (grains 8 a) k y)
-      → shownBeside a (record { ok = e .ok; grains = t; next = e .next; prev = e .prev }) ≡ run (held a l v r) (seeListed (grains 8 a) t y)
+      → shownBeside a (record { ok = e .ok; grains = t; list = k; next = e .next; prev = e .prev }) ≡ run (held a l v r) (seeListed (grains 8 a) t y)
   listed-entry h p e q =
       let m = held a l v r in
       go (e .ok) (q ∙ ap (λ (i : ℕ). run m (seeEntry (grains 8 a) i y)) j)

@@ -6,7 +6,6 @@ use mathlib.Core.Path.{_≡_, refl, ap, sym, _∙_}
 use mathlib.Core.List.{List, _++_}
 use lib.ListN.{length}
 use Rattle.bits.specs.Map.{lists}
-use Rattle.class.specs.Class.{listOf}
 use Rattle.script.specs.Memory.{Next, Prev, root, Write, latest}
 use Rattle.sound.specs.Checks.{Entry, Beside}
 use Rattle.sound.specs.Links.{unlinkWrites}
@@ -16,29 +15,8 @@ use Rattle.free_list.specs.Lent.{link, Leads, link-keep, leads-keep}
 use Rattle.free_list.specs.Written.{Written, written-none, written-then, written-as, written-length}
 use Rattle.neighbours.specs.declared.Beside.{Beside as BesideAnswer}
 use Rattle.neighbours.specs.declared.Neighbour.{Neighbour}
-use Rattle.neighbours.specs.Shown.{someone}
+use Rattle.neighbours.specs.Shown.{someone, listed}
 use Rattle.neighbours.specs.After.{relinked, headed, leaving, latest-append, next-after, prev-after, head-after}
-
--- ---- its list, if it is there
-
-unfoldable pub listed : ℕ → ℕ
-listed zero = 0
-listed (suc g) = listOf (suc g)
-
-pub listed-nobody : (g : ℕ) → g ≡ 0 → 0 ≡ listed g
-unfolding listed
-listed-nobody zero e = refl
-listed-nobody (suc g) e = absurd (omega arith)
-
-pub listed-some : (g k : ℕ) → (g ≡ 0 → ⊥) → k ≡ listOf g → k ≡ listed g
-unfolding listed
-listed-some zero k n e = absurd (n refl)
-listed-some (suc g) k n e = e
-
-pub listed-below : (g k : ℕ) → (g ≡ 0 → ⊥) → k ≡ listed g → listOf g < lists → k < lists
-unfolding listed
-listed-below zero k n e h = absurd (n refl)
-listed-below (suc g) k n e h = omega arith
 
 -- ---- what is asked for writing: a list that is there, links that lead
 
@@ -56,15 +34,15 @@ known-keep a b f e k n = record { list = k n .list; next = leads-keep a b (f .ne
 
 -- ---- one after the other
 
--- what was seen, in list k
-abbrev pub firstOf : BesideAnswer → ℕ → Neighbour
-firstOf e k = record { grains = e .grains; list = k; next = e .next; prev = e .prev }
+-- what was seen
+abbrev pub firstOf : BesideAnswer → Neighbour
+firstOf e = record { grains = e .grains; list = e .list; next = e .next; prev = e .prev }
 
 -- the free block f at z, after e left
 abbrev pub secondOf : Neighbour → ℕ → BesideAnswer → Neighbour
 secondOf e z f = record {
   grains = f .grains;
-  list = listed (f .grains);
+  list = f .list;
   next = relinked (e .grains) (e .prev) (32 * z) (e .next) (f .next);
   prev = relinked (e .grains) (e .next) (32 * z) (e .prev) (f .prev);
 }
@@ -140,13 +118,13 @@ module _ (a : List ℕ) (k x p : ℕ) where
       ∙ ap (λ (y : ℕ). unlinkWrites k y (latest w Prev z (o .prev))) (sym f) ∙ ap (unlinkWrites k (link a x)) (sym h)
 
 -- both leave, the second from a list in which the first is no more
-pub both-leave : (a : List ℕ) (e : Neighbour) (f : BesideAnswer) (z : ℕ) → length a < 18446744073709551616 → z < grains 8 a → e .list ≡ listed (e .grains)
+pub both-leave : (a : List ℕ) (e : Neighbour) (f : BesideAnswer) (z : ℕ) → length a < 18446744073709551616 → z < grains 8 a → e .list ≡ listed (e .grains) → f .list ≡ listed (f .grains)
     → bothLeave (someone (e .grains) (record { next = link a (e .next); prev = link a (e .prev) })) z (seenOf a f) ≡ bothLeaving a e (secondOf e z f)
-both-leave a e f z s h p =
+both-leave a e f z s h p q =
     let w = leavingOf a e in
     let g = secondOf e z f in
     ap (λ (w : List Write). w ++ leaves (afterwards w z (seenOf a f))) (leaves-is a (e .list) (e .next) (e .prev) (e .grains) p)
-    ∙ ap (λ (o : List Write). w ++ o) (after-is a (g .list) (g .next) (g .prev) w z (f .grains) (record { next = link a (f .next); prev = link a (f .prev) }) refl
+    ∙ ap (λ (o : List Write). w ++ o) (after-is a (g .list) (g .next) (g .prev) w z (f .grains) (record { next = link a (f .next); prev = link a (f .prev) }) q
     (next-after a (e .list) (e .next) (e .prev) s (e .grains) z (f .next) h)
     (prev-after a (e .list) (e .next) (e .prev) s (e .grains) z (f .prev) h))
 

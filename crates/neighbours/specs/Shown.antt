@@ -1,15 +1,16 @@
 -- The code's answers as the scripts give them, and the slices that were lent as the scripts read them.
 use Prim.Native.Nat.{ℕ, zero, suc, _+_, _*_, _≤_, _<_}
 use native.Mathlib.Omega.{arith}
-use mathlib.Core.Path.{_≡_, refl, ap, sym, _∙_}
+use mathlib.Core.Path.{_≡_, refl, ap, sym, _∙_, subst}
 use mathlib.Core.Bool.{Bool}
 use mathlib.Core.List.{List}
 use mathlib.Core.Logic.{⊎-elim}
 use lib.ListN.{length}
 use Rattle.choice.specs.Choice.{ifLe, le?}
+use Rattle.class.specs.Class.{listOf}
 use Rattle.word.specs.Word.{wordAt}
 use Rattle.script.specs.Memory.{Before}
-use Rattle.script.specs.Script.{Result, ok, no, run}
+use Rattle.script.specs.Script.{Script, Result, ok, no, run}
 use Rattle.sound.specs.Checks.{Entry, Owner, Beside, nobody, somebody, blockOf, seeOwner, seeBehind, seeBefore}
 use Rattle.slices.specs.Decode.{grains, wrongLink}
 use Rattle.slices.specs.Arena.{linkAt, link-in}
@@ -50,18 +51,41 @@ someone (suc t) e = somebody (suc t) e
 
 -- the answer with no block
 abbrev pub alone : Bool → BesideAnswer
-alone b = record { ok = b; grains = 0; next = noLink; prev = noLink }
+alone b = record { ok = b; grains = 0; list = 0; next = noLink; prev = noLink }
 
 -- the block with what its links say, or nobody; or refusal 5
 abbrev pub shownBeside : List ℕ → BesideAnswer → Result Beside
 shownBeside a r = answer (r .ok) (someone (r .grains) (record { next = link a (r .next); prev = link a (r .prev) }))
 
--- the answers on what is behind, at y, and on what is before x
+-- the list of a block of g grains, if it is there
+unfoldable pub listed : ℕ → ℕ
+listed zero = 0
+listed (suc g) = listOf (suc g)
+
+listed-nobody : 0 ≡ listed 0
+unfolding listed
+listed-nobody = refl
+
+pub listed-some : (g k : ℕ) → 1 ≤ g → k ≡ listOf g → k ≡ listed g
+unfolding listed
+listed-some zero k h e = absurd (omega arith)
+listed-some (suc g) k h e = e
+
+-- the answer is that of the script S, whatever the other slices hold, and the block's list is that of its size
+pub record SeenBeside (a l : List ℕ) (S : Script Beside) (r : BesideAnswer) : Type 0 where
+  pub answer : (v t : List ℕ) → shownBeside a r ≡ run (held a l v t) S
+  pub list : r .list ≡ listed (r .grains)
+
+-- on what is behind, at y, and on what is before x
 abbrev pub SeenBehind : List ℕ → List ℕ → ℕ → BesideAnswer → Type 0
-SeenBehind a l y r = (v t : List ℕ) → shownBeside a r ≡ run (held a l v t) (seeBehind (grains 8 a) classes y)
+SeenBehind a l y r = SeenBeside a l (seeBehind (grains 8 a) classes y) r
 
 abbrev pub SeenBefore : List ℕ → List ℕ → ℕ → BesideAnswer → Type 0
-SeenBefore a l x r = (v t : List ℕ) → shownBeside a r ≡ run (held a l v t) (seeBefore (grains 8 a) classes x)
+SeenBefore a l x r = SeenBeside a l (seeBefore (grains 8 a) classes x) r
+
+-- nobody was seen
+pub seen-nobody : (a l : List ℕ) (S : Script Beside) (b : Bool) (r : BesideAnswer) → r ≡ alone b → ((v t : List ℕ) → shownBeside a (alone b) ≡ run (held a l v t) S) → SeenBeside a l S r
+seen-nobody a l S b r e h = subst (SeenBeside a l S) (sym e) (record { answer = h; list = listed-nobody })
 
 -- a block has grains
 pub someone-is : (t : ℕ) (e : Entry) → 1 ≤ t → someone t e ≡ somebody t e

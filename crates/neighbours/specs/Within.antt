@@ -20,12 +20,12 @@ use Rattle.slices.specs.Slices.{memory-size}
 use Rattle.free_list.specs.Lent.{lent, held, classes, noLink, link, Leads}
 use Rattle.free_list.specs.Answers.{answer, unless}
 use Rattle.free_list.specs.Leading.{leads-valid}
-use Rattle.neighbours.specs.Shown.{shownOwner, someone, shownBeside}
+use Rattle.neighbours.specs.Shown.{shownOwner, someone, listed, SeenBehind, SeenBefore}
 use Rattle.neighbours.specs.declared.Owner.{Owner as OwnerAnswer}
 use Rattle.neighbours.specs.declared.Beside.{Beside as BesideAnswer}
 use Rattle.neighbours.specs.declared.Neighbour.{Neighbour}
 use Rattle.neighbours.specs.After.{relinked, headed}
-use Rattle.neighbours.specs.Leaving.{Known, listed, listed-below, headedBoth, firstOf, secondOf}
+use Rattle.neighbours.specs.Leaving.{Linked, Known, headedBoth, firstOf, secondOf}
 
 -- ---- the block
 
@@ -42,47 +42,41 @@ module _ (a l v t : List ℕ) where
 
 -- ---- its neighbours
 
--- what was seen of one of g grains: its list is there, and its links lead
-pub record Sighted (a : List ℕ) (r : BesideAnswer) : Type 0 where
-  pub list : listOf (r .grains) < lists
-  pub next : Leads a (r .next)
-  pub prev : Leads a (r .prev)
-
 module _ (a l v t : List ℕ) (s : length a < 18446744073709551616) where
-  sighted : (y g x p : ℕ) → listOf g < lists → EntryChecked (grains 8 a) (held a l v t) (listOf g) y (record { next = link a x; prev = link a p })
-      → (b : Bool) → Sighted a (record { ok = b; grains = g; next = x; prev = p })
-  sighted y g x p k c b = record {
-    list = k;
+  -- a list that is there, and links that lead
+  sighted : (y g k x p : ℕ) → k ≡ listed (suc g) → listOf (suc g) < lists → EntryChecked (grains 8 a) (held a l v t) (listOf (suc g)) y (record { next = link a x; prev = link a p })
+      → Linked a (record { grains = suc g; list = k; next = x; prev = p })
+  unfolding listed
+  sighted y g k x p e h c = record {
+    list = omega arith;
     next = leads-valid a x s (⊎-elim (λ q. inl q) (λ q. inr (q .0)) (c .back));
     prev = leads-valid a p s (⊎-elim (λ q. inl (q .0)) (λ q. inr (q .2)) (c .head));
   }
 
   -- behind it
-  pub behind-within : (y : ℕ) (r : BesideAnswer) → y < grains 8 a → shownBeside a r ≡ run (held a l v t) (seeBehind (grains 8 a) classes y) → r .ok ≡ true
-      → (y + r .grains < grains 8 a) × ((r .grains ≡ 0 → ⊥) → Sighted a r)
-  behind-within y r i h o = go (r .ok) (r .grains) (r .next) (r .prev) h o
+  pub behind-within : (y : ℕ) (r : BesideAnswer) → y < grains 8 a → SeenBehind a l y r → r .ok ≡ true → (y + r .grains < grains 8 a) × Known a (firstOf r)
+  behind-within y r i h o = go (r .ok) (r .grains) (r .list) (r .next) (r .prev) (h .answer v t) (h .list) o
     where
-      go : (b : Bool) (g x p : ℕ) → answer b (someone g (record { next = link a x; prev = link a p })) ≡ run (held a l v t) (seeBehind (grains 8 a) classes y) → b ≡ true
-          → (y + g < grains 8 a) × ((g ≡ 0 → ⊥) → Sighted a (record { ok = b; grains = g; next = x; prev = p }))
-      go b zero x p h o = (omega arith, λ n. absurd (n refl))
-      go b (suc g) x p h o =
+      go : (b : Bool) (g k x p : ℕ) → answer b (someone g (record { next = link a x; prev = link a p })) ≡ run (held a l v t) (seeBehind (grains 8 a) classes y) → k ≡ listed g → b ≡ true
+          → (y + g < grains 8 a) × Known a (record { grains = g; list = k; next = x; prev = p })
+      go b zero k x p h d o = (omega arith, λ n. absurd (n refl))
+      go b (suc g) k x p h d o =
           let e : Entry = record { next = link a x; prev = link a p } in
           let c = behind-checked (grains 8 a) classes (held a l v t) y (somebody (suc g) e) (sym h ∙ ap (λ (d : Bool). answer d (somebody (suc g) e)) o) in
           let j = size-within a l v t y (isFree (suc g)) (c .word) in
-          (omega (arith, j .1), λ _. sighted y (suc g) x p (c .list) (c .entry) b)
+          (omega (arith, j .1), λ _. sighted y g k x p d (c .list) (c .entry))
 
   -- before it
-  pub before-within : (x : ℕ) (r : BesideAnswer) → shownBeside a r ≡ run (held a l v t) (seeBefore (grains 8 a) classes x) → r .ok ≡ true
-      → (r .grains ≤ x) × ((r .grains ≡ 0 → ⊥) → Sighted a r)
-  before-within x r h o = go (r .ok) (r .grains) (r .next) (r .prev) h o
+  pub before-within : (x : ℕ) (r : BesideAnswer) → SeenBefore a l x r → r .ok ≡ true → (r .grains ≤ x) × Known a (firstOf r)
+  before-within x r h o = go (r .ok) (r .grains) (r .list) (r .next) (r .prev) (h .answer v t) (h .list) o
     where
-      go : (b : Bool) (g y p : ℕ) → answer b (someone g (record { next = link a y; prev = link a p })) ≡ run (held a l v t) (seeBefore (grains 8 a) classes x) → b ≡ true
-          → (g ≤ x) × ((g ≡ 0 → ⊥) → Sighted a (record { ok = b; grains = g; next = y; prev = p }))
-      go b zero y p h o = (omega arith, λ n. absurd (n refl))
-      go b (suc g) y p h o =
+      go : (b : Bool) (g k y p : ℕ) → answer b (someone g (record { next = link a y; prev = link a p })) ≡ run (held a l v t) (seeBefore (grains 8 a) classes x) → k ≡ listed g → b ≡ true
+          → (g ≤ x) × Known a (record { grains = g; list = k; next = y; prev = p })
+      go b zero k y p h d o = (omega arith, λ n. absurd (n refl))
+      go b (suc g) k y p h d o =
           let e : Entry = record { next = link a y; prev = link a p } in
           let c = before-checked (grains 8 a) classes (held a l v t) x (somebody (suc g) e) (sym h ∙ ap (λ (d : Bool). answer d (somebody (suc g) e)) o) in
-          (omega (arith, c .meets), λ _. sighted (held a l v t Before x) (suc g) y p (c .list) (c .entry) b)
+          (omega (arith, c .meets), λ _. sighted (held a l v t Before x) g k y p d (c .list) (c .entry))
 
 -- ---- links that were chosen
 
@@ -98,15 +92,10 @@ headed-leads a (suc g) k x p j h f i = eq-case (Leads a) p noLink (ifEq k j x h)
 
 -- ---- neighbours that can leave
 
--- the first
-pub known-first : (a : List ℕ) (e : BesideAnswer) (k : ℕ) → k ≡ listed (e .grains) → ((e .grains ≡ 0 → ⊥) → Sighted a e)
-    → Known a (firstOf e k)
-known-first a e k q i n = record { list = listed-below (e .grains) k n q (i n .list); next = i n .next; prev = i n .prev }
-
 -- the second, after the first
-pub known-second : (a : List ℕ) (e : Neighbour) (f : BesideAnswer) (z : ℕ) → Known a e → ((f .grains ≡ 0 → ⊥) → Sighted a f) → Known a (secondOf e z f)
+pub known-second : (a : List ℕ) (e : Neighbour) (f : BesideAnswer) (z : ℕ) → Known a e → Known a (firstOf f) → Known a (secondOf e z f)
 known-second a e f z i j n = record {
-  list = listed-below (f .grains) (listed (f .grains)) n refl (j n .list);
+  list = j n .list;
   next = relinked-leads a (e .grains) (e .prev) (32 * z) (e .next) (f .next) (λ m. i m .next) (j n .next);
   prev = relinked-leads a (e .grains) (e .next) (32 * z) (e .prev) (f .prev) (λ m. i m .prev) (j n .prev);
 }

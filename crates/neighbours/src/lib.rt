@@ -9,7 +9,7 @@ ghost use Rattle.free_list.specs.Written.{Written};
 ghost use Rattle.neighbours.specs.Shown.{refusal, alone, SeenOwner, SeenBlock, SeenBehind, SeenBefore};
 ghost use Rattle.neighbours.specs.Beside.{SeenListed};
 ghost use Rattle.neighbours.specs.After.{relinked, headed};
-ghost use Rattle.neighbours.specs.Leaving.{Known, leavingOf, bothLeaving, listed, headedBoth, secondOf};
+ghost use Rattle.neighbours.specs.Leaving.{Known, leavingOf, bothLeaving, headedBoth, secondOf};
 use bits::LISTS;
 use header::BEFORE;
 use header::NONE;
@@ -92,10 +92,11 @@ fn refused(why: u64) -> Owner
 
 // ---- the blocks beside a used one
 
-// A free block with its links, or nobody, which has no grains; and whether all that is there agrees.
+// A free block with its list and its links, or nobody, which has no grains; and whether all that is there agrees.
 pub struct Beside {
     pub ok: bool,
     pub grains: usize,
+    pub list: usize,
     pub next: u64,
     pub prev: u64,
 }
@@ -154,6 +155,7 @@ fn see_listed(a: &[u8], lists: &[u64], t: usize, y: usize) -> Beside
     Beside {
         ok: e.ok,
         grains: t,
+        list: k,
         next: e.next,
         prev: e.prev,
     }
@@ -166,6 +168,7 @@ fn nobody(ok: bool) -> Beside
     Beside {
         ok,
         grains: 0,
+        list: 0,
         next: NONE,
         prev: NONE,
     }
@@ -191,17 +194,6 @@ pub fn no_neighbour() -> Neighbour
         next: NONE,
         prev: NONE,
     }
-}
-
-// The list of a neighbour of g grains, if there is one.
-pub fn list_of(g: usize) -> usize
-    requires { ⌜ g < 576460752303423488 ⌝ }
-    ensures { λ r. ⌜ r ≡ listed g ⌝ }
-{
-    if g == 0 {
-        return 0;
-    }
-    class::map_floor(g as u64) as usize
 }
 
 // A neighbour leaves its list, if there is one.
@@ -276,12 +268,12 @@ pub fn head_after_both(behind: Neighbour, before: Neighbour, j: usize, h: u64) -
 
 // The free block f at z, before a used one, as it leaves its list after the neighbour behind left.
 pub fn second(behind: Neighbour, z: usize, f: Beside) -> Neighbour
-    requires { ⌜ (f .grains < 576460752303423488) × (z < 576460752303423488) ⌝ }
+    requires { ⌜ z < 576460752303423488 ⌝ }
     ensures { λ r. ⌜ r ≡ secondOf behind z f ⌝ }
 {
     Neighbour {
         grains: f.grains,
-        list: list_of(f.grains),
+        list: f.list,
         next: after(behind.grains, behind.prev, z, behind.next, f.next),
         prev: after(behind.grains, behind.next, z, behind.prev, f.prev),
     }

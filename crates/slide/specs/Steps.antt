@@ -145,7 +145,7 @@ module _ (a l : List ℕ) (x s : ℕ) (e : Neighbour) (p m : ℕ) (b : Behind a 
   unfolding moveScript
   slide-damaged r i c = record {
     answers = λ q v o. shown-damaged a l v o q (2 * (x + s) - q) p m r i
-        ∙ sym (halts (held a l v o) (seeBefore (grains 8 a) classes x) _ (sym (g v o) ∙ ap (λ (t : Bool). answer t (seenOf a f)) c));
+        ∙ sym (halts (held a l v o) (seeBefore (grains 8 a) classes x) _ (sym (g .answer v o) ∙ ap (λ (t : Bool). answer t (seenOf a f)) c));
     able = λ n _. absurd (omega arith);
     joined = λ n _. absurd (omega arith);
   }
@@ -156,7 +156,7 @@ module _ (a l : List ℕ) (x s : ℕ) (e : Neighbour) (p m : ℕ) (b : Behind a 
         ≡ run (held a l v o) (ifEq (roomOf (seenOf a f)) 0 (elsewhereScript (grains 8 a) classes q p m (2 * (x + s) - q))
         (downScript (grains 8 a) classes q p m (2 * (x + s) - q) (x - roomOf (seenOf a f)) (roomOf (seenOf a f) + (s + roomOf (behindOf a e))) (bothLeave (behindOf a e) (x - roomOf (seenOf a f)) (seenOf a f))))
     unfolding moveScript
-    before q v o = goes (held a l v o) (seeBefore (grains 8 a) classes x) _ (sym (g v o) ∙ ap (λ (t : Bool). answer t (seenOf a f)) c)
+    before q v o = goes (held a l v o) (seeBefore (grains 8 a) classes x) _ (sym (g .answer v o) ∙ ap (λ (t : Bool). answer t (seenOf a f)) c)
 
     -- nobody is there
     pub slide-alone : (r : PlanAnswer) → Farther r → f .grains ≡ 0 → Slides a l x s e p m r
@@ -180,7 +180,7 @@ module _ (a l : List ℕ) (x s : ℕ) (e : Neighbour) (p m : ℕ) (b : Behind a 
           ∙ ap (λ (w : ℕ). run c (downScript (grains 8 a) classes q p m u (x - w) (w + (s + roomOf (behindOf a e))) (bothLeave (behindOf a e) (x - w) (seenOf a f)))) (room-is (f .grains) _)
           ∙ ap (λ (w : ℕ). run c (downScript (grains 8 a) classes q p m u (x - f .grains) (f .grains + (s + w)) (bothLeave (behindOf a e) (x - f .grains) (seenOf a f)))) (room-is (e .grains) _)
           ∙ ap (λ (w : List Write). run c (downScript (grains 8 a) classes q p m u (x - f .grains) (f .grains + (s + e .grains)) w))
-          (both-leave a e f (x - f .grains) few (omega (arith, b .inside)) (b .list) ∙ ap (bothLeaving a e) (sym i)));
+          (both-leave a e f (x - f .grains) few (omega (arith, b .inside)) (b .list) (g .list) ∙ ap (bothLeaving a e) (sym i)));
       able = h .able;
       joined = λ y z. let w = h .joined y z in (omega (arith, w .0), omega (arith, w .0, w .1), w .2 ∙ j ∙ ap (place m) (sym (w .0)));
     }

@@ -13,8 +13,8 @@ use Rattle.sound.specs.Plans.{Plan, moveScript}
 use Rattle.slices.specs.Decode.{grains}
 use Rattle.free_list.specs.Lent.{held, classes, noLink, link, Leads}
 use Rattle.neighbours.specs.declared.Neighbour.{Neighbour}
-use Rattle.neighbours.specs.Shown.{someone}
-use Rattle.neighbours.specs.Leaving.{listed, Known, leavingOf}
+use Rattle.neighbours.specs.Shown.{someone, listed}
+use Rattle.neighbours.specs.Leaving.{Known, leavingOf}
 use Rattle.carve.specs.Made.{leftBehind}
 use Rattle.stretch.specs.declared.Plan.{Plan as PlanAnswer}
 

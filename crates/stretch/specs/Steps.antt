@@ -23,8 +23,8 @@ use Rattle.neighbours.specs.declared.Neighbour.{Neighbour}
 use Rattle.neighbours.specs.declared.Beside.{Beside as BesideAnswer}
 use Rattle.neighbours.specs.Shown.{SeenBehind}
 use Rattle.neighbours.specs.After.{headed, head-after}
-use Rattle.neighbours.specs.Leaving.{listed, leavingOf, seenOf, room-is, leaves-is}
-use Rattle.neighbours.specs.Within.{behind-within, headed-leads, known-first}
+use Rattle.neighbours.specs.Leaving.{firstOf, leavingOf, seenOf, room-is, leaves-is}
+use Rattle.neighbours.specs.Within.{behind-within, headed-leads}
 use Rattle.carve.specs.Left.{left-nothing, left-unlisted, left-headless, left-listed}
 use Rattle.stretch.specs.declared.Plan.{Plan as PlanAnswer}
 use Rattle.stretch.specs.Shown.{bare, behindOf, stays, Behind, Planned, planned-damaged}
@@ -145,24 +145,22 @@ module _ (a l : List ℕ) (x s m : ℕ) where
     -- it doesn't agree
     pub plan-damaged : (r : PlanAnswer) → r .refusal ≡ 5 → e .ok ≡ false → Planned a l growing x s m r
     plan-damaged r i c = planned-damaged a l growing x s m r i (λ q p u d k v o.
-        sym (grows q p u d k v o ∙ halts (held a l v o) (seeBehind (grains 8 a) classes (x + s)) _ (sym (z v o) ∙ ap (λ (t : Bool). answer t (seenOf a e)) c)))
+        sym (grows q p u d k v o ∙ halts (held a l v o) (seeBehind (grains 8 a) classes (x + s)) _ (sym (z .answer v o) ∙ ap (λ (t : Bool). answer t (seenOf a e)) c)))
 
     -- the rest hangs on it
-    pub plan-fit : (r : PlanAnswer) (k : ℕ) → e .ok ≡ true
-        → Planned a l (λ q p u d. stretchScript (grains 8 a) classes q p u d x s (behindOf a (record { grains = e .grains; list = k; next = e .next; prev = e .prev }))) x s m r
+    pub plan-fit : (r : PlanAnswer) → e .ok ≡ true
+        → Planned a l (λ q p u d. stretchScript (grains 8 a) classes q p u d x s (behindOf a (firstOf e))) x s m r
         → Planned a l growing x s m r
-    plan-fit r k c f = record {
+    plan-fit r c f = record {
       answers = λ q p u d j v o. f .answers q p u d j v o
-          ∙ sym (grows q p u d j v o ∙ goes (held a l v o) (seeBehind (grains 8 a) classes (x + s)) _ (sym (z v o) ∙ ap (λ (t : Bool). answer t (seenOf a e)) c));
+          ∙ sym (grows q p u d j v o ∙ goes (held a l v o) (seeBehind (grains 8 a) classes (x + s)) _ (sym (z .answer v o) ∙ ap (λ (t : Bool). answer t (seenOf a e)) c));
       behind = f .behind;
       able = f .able;
       short = f .short;
     }
 
--- what was seen behind the block, in whichever list, stands in the arena and can leave
-pub plan-behind : (a l : List ℕ) (x s : ℕ) (e : BesideAnswer) → SeenBehind a l (x + s) e → length a < 18446744073709551616 → x + s < grains 8 a → e .ok ≡ true
-    → (x + (s + e .grains) < grains 8 a) × ((k : ℕ) → k ≡ listed (e .grains) → Behind a x s (record { grains = e .grains; list = k; next = e .next; prev = e .prev }))
+-- what was seen behind the block stands in the arena and can leave
+pub plan-behind : (a l : List ℕ) (x s : ℕ) (e : BesideAnswer) → SeenBehind a l (x + s) e → length a < 18446744073709551616 → x + s < grains 8 a → e .ok ≡ true → Behind a x s (firstOf e)
 plan-behind a l x s e z t h c =
-    let w = behind-within a l [] [] t (x + s) e h (z [] []) c in
-    let i : x + (s + e .grains) < grains 8 a = omega (arith, w .0) in
-    (i, λ k j. record { inside = i; list = j; known = known-first a e k j (w .1) })
+    let w = behind-within a l [] [] t (x + s) e h z c in
+    record { inside = omega (arith, w .0); list = z .list; known = w .1 }

@@ -50,7 +50,7 @@ pub fn plan_stretch(a: &[u8], lists: &[u64], x: usize, s: usize, keep: usize) ->
     }
     let behind = Neighbour {
         grains: e.grains,
-        list: neighbours::list_of(e.grains),
+        list: e.list,
         next: e.next,
         prev: e.prev,
     };

@@ -3,9 +3,6 @@ use borrow.Author.Needs.{needs}
 use Rattle.neighbours.proofs.second.Statement.{statement}
 use Rattle.neighbours.proofs.second.Tie as tie
 
-list-of-requires : tie.Need-list-of-requires
-list-of-requires c κs = search needs
-
 after-requires : tie.Need-after-requires
 after-requires c κs = search needs
 
@@ -13,7 +10,7 @@ after-requires-2 : tie.Need-after-requires-2
 after-requires-2 c κs = search needs
 
 returns : tie.Need-returns
-returns c = rw (c .before .before .list-of .ensures, c .before .after .ensures, c .after2 .ensures)
+returns c = rw (c .before .after .ensures, c .after2 .ensures)
 
 pub second-spec : {M : Type 1} → statement M
-second-spec = tie.close (tie.spec list-of-requires after-requires after-requires-2 returns)
+second-spec = tie.close (tie.spec after-requires after-requires-2 returns)

@@ -1,10 +1,9 @@
 -- `neighbours::see_before`: each return is one step of the script.
 use native.Mathlib.Omega.{arith}
-use mathlib.Core.Path.{ap, _∙_}
 use Prim.Native.Nat.{_+_, _≤_, _<_}
 use Rattle.slices.specs.Decode.{grains}
 use Rattle.header.specs.Turned.{grains-few}
-use Rattle.neighbours.specs.Shown.{shownBeside}
+use Rattle.neighbours.specs.Shown.{seen-nobody}
 use Rattle.neighbours.specs.Owner.{used-inside}
 use Rattle.neighbours.specs.Beside.{free-inside, before-none, before-out, before-used, before-apart, before-listed}
 use borrow.Author.Needs.{needs}
@@ -29,11 +28,11 @@ nobody-requires : tie.Need-nobody-requires
 nobody-requires c κs = search needs
 
 returns : tie.Need-returns
-returns c v t =
+returns c =
     let w = c .before .before in
     let s = w .before .before .before in
-    ap (shownBeside (s .args .a .now)) (c .nobody .ensures)
-    ∙ before-none (s .args .a .now) (s .args .lists .now) v t (s .args .x) (w .field .result) (s .good .0 .0) (s .pre .0) (w .field .ensures) (c .before .if1 .taken)
+    seen-nobody _ _ _ _ (c .nobody .result) (c .nobody .ensures) λ v t.
+    before-none (s .args .a .now) (s .args .lists .now) v t (s .args .x) (w .field .result) (s .good .0 .0) (s .pre .0) (w .field .ensures) (c .before .if1 .taken)
 
 grain-of-requires : tie.Need-grain-of-requires
 grain-of-requires c κs = search needs
@@ -42,12 +41,12 @@ nobody-requires-2 : tie.Need-nobody-requires-2
 nobody-requires-2 c κs = search needs
 
 returns-2 : tie.Need-returns-2
-returns-2 c v t =
+returns-2 c =
     let g = c .before .before in
     let w = g .before .before in
     let s = w .before .before .before in
-    ap (shownBeside (s .args .a .now)) (c .nobody2 .ensures)
-    ∙ before-out (s .args .a .now) (s .args .lists .now) v t (s .args .x) (w .field .result) (s .good .0 .0) (s .pre .0) (w .field .ensures) (g .before .if1 .left)
+    seen-nobody _ _ _ _ (c .nobody2 .result) (c .nobody2 .ensures) λ v t.
+    before-out (s .args .a .now) (s .args .lists .now) v t (s .args .x) (w .field .result) (s .good .0 .0) (s .pre .0) (w .field .ensures) (g .before .if1 .left)
     (g .grain-of .result) (g .grain-of .ensures) (c .before .if2 .taken)
 
 free-at-requires : tie.Need-free-at-requires
@@ -65,14 +64,14 @@ nobody-requires-3 : tie.Need-nobody-requires-3
 nobody-requires-3 c κs = search needs
 
 returns-3 : tie.Need-returns-3
-returns-3 c v t =
+returns-3 c =
     let u = c .before in
     let f = u .before .before in
     let g = f .before .before in
     let w = g .before .before in
     let s = w .before .before .before in
-    ap (shownBeside (s .args .a .now)) (c .nobody3 .ensures)
-    ∙ before-used (s .args .a .now) (s .args .lists .now) v t (s .args .x) (w .field .result) (s .good .0 .0) (s .pre .0) (w .field .ensures) (g .before .if1 .left)
+    seen-nobody _ _ _ _ (c .nobody3 .result) (c .nobody3 .ensures) λ v t.
+    before-used (s .args .a .now) (s .args .lists .now) v t (s .args .x) (w .field .result) (s .good .0 .0) (s .pre .0) (w .field .ensures) (g .before .if1 .left)
     (g .grain-of .result) (g .grain-of .ensures) (f .before .if2 .left) (f .free-at .result) (f .free-at .ensures) (u .before .if3 .taken)
     (u .used-at .result) (u .used-at .ensures)
 
@@ -83,14 +82,14 @@ nobody-requires-4 : tie.Need-nobody-requires-4
 nobody-requires-4 c κs = search needs
 
 returns-4 : tie.Need-returns-4
-returns-4 c v t =
+returns-4 c =
     let e = c .before .before in
     let f = e .before in
     let g = f .before .before in
     let w = g .before .before in
     let s = w .before .before .before in
-    ap (shownBeside (s .args .a .now)) (c .nobody4 .ensures)
-    ∙ before-apart (s .args .a .now) (s .args .lists .now) v t (s .args .x) (w .field .result) (s .good .0 .0) (s .pre .0) (w .field .ensures) (g .before .if1 .left)
+    seen-nobody _ _ _ _ (c .nobody4 .result) (c .nobody4 .ensures) λ v t.
+    before-apart (s .args .a .now) (s .args .lists .now) v t (s .args .x) (w .field .result) (s .good .0 .0) (s .pre .0) (w .field .ensures) (g .before .if1 .left)
     (g .grain-of .result) (g .grain-of .ensures) (f .before .if2 .left) (f .free-at .result) (f .free-at .ensures) (e .if3 .left)
     (c .before .if4 .taken)
 
@@ -101,15 +100,17 @@ see-listed-requires c κs =
     (within (e .before), s .pre .1, inside e .0, omega (arith, inside e))
 
 returns-5 : tie.Need-returns-5
-returns-5 c v t =
+returns-5 c =
     let e = c .before .before in
     let f = e .before in
     let g = f .before .before in
     let w = g .before .before in
-    let s = w .before .before .before in
-    before-listed (s .args .a .now) (s .args .lists .now) v t (s .args .x) (w .field .result) (s .good .0 .0) (s .pre .0) (w .field .ensures) (g .before .if1 .left)
-    (g .grain-of .result) (g .grain-of .ensures) (f .before .if2 .left) (f .free-at .result) (f .free-at .ensures) (e .if3 .left)
-    (c .before .if4 .left) (c .see-listed .ensures v t)
+    let s = w .before .before .before in record {
+      answer = λ v t. before-listed (s .args .a .now) (s .args .lists .now) v t (s .args .x) (w .field .result) (s .good .0 .0) (s .pre .0) (w .field .ensures) (g .before .if1 .left)
+          (g .grain-of .result) (g .grain-of .ensures) (f .before .if2 .left) (f .free-at .result) (f .free-at .ensures) (e .if3 .left)
+          (c .before .if4 .left) (c .see-listed .ensures .answer v t);
+      list = c .see-listed .ensures .list;
+    }
 
 pub see-before-spec : {M : Type 1} → statement M
 see-before-spec =

@@ -1,12 +1,12 @@
 -- `neighbours::see_behind`: each return is one step of the script.
 use native.Mathlib.Omega.{arith}
-use mathlib.Core.Path.{ap, sym, _∙_}
+use mathlib.Core.Path.{sym, _∙_}
 use Prim.Native.Nat.{_+_, _≤_, _<_}
 use borrow.Author.Tests.{not-true, not-false}
 use Rattle.choice.specs.Says.{says-yes, says-no}
 use Rattle.slices.specs.Decode.{grains}
 use Rattle.header.specs.Turned.{grains-few}
-use Rattle.neighbours.specs.Shown.{shownBeside}
+use Rattle.neighbours.specs.Shown.{seen-nobody}
 use Rattle.neighbours.specs.Beside.{free-inside, behind-busy, behind-idle, behind-torn, behind-listed}
 use borrow.Author.Needs.{needs}
 use Rattle.neighbours.proofs.see_behind.Statement.{statement}
@@ -29,12 +29,12 @@ nobody-requires : tie.Need-nobody-requires
 nobody-requires c κs = search needs
 
 returns : tie.Need-returns
-returns c v t =
+returns c =
     let b = c .before in
     let f = b .before .before in
     let s = f .before .before .before .args in
-    ap (shownBeside (s .a .now)) (c .nobody .ensures)
-    ∙ behind-busy (s .a .now) (s .lists .now) v t (s .y) (f .free-at .result) (f .free-at .ensures) (b .before .if1 .taken) (b .is-busy .result) (b .is-busy .ensures)
+    seen-nobody _ _ _ _ (c .nobody .result) (c .nobody .ensures) λ v t.
+    behind-busy (s .a .now) (s .lists .now) v t (s .y) (f .free-at .result) (f .free-at .ensures) (b .before .if1 .taken) (b .is-busy .result) (b .is-busy .ensures)
 
 add-is-busy : tie.Need-add-is-busy
 add-is-busy c = omega (arith, inside c, few c)
@@ -46,12 +46,12 @@ nobody-requires-2 : tie.Need-nobody-requires-2
 nobody-requires-2 c κs = search needs
 
 returns-2 : tie.Need-returns-2
-returns-2 c v t =
+returns-2 c =
     let b = c .before .before in
     let d = b .before in
     let s = d .before .before .before .before .args in
-    ap (shownBeside (s .a .now)) (c .nobody2 .ensures)
-    ∙ behind-idle (s .a .now) (s .lists .now) v t (s .y) (d .before .free-at .result) (d .before .free-at .ensures) (d .if1 .left)
+    seen-nobody _ _ _ _ (c .nobody2 .result) (c .nobody2 .ensures) λ v t.
+    behind-idle (s .a .now) (s .lists .now) v t (s .y) (d .before .free-at .result) (d .before .free-at .ensures) (d .if1 .left)
     (sym (not-true _ (c .before .if2 .taken)) ∙ b .is-busy2 .ensures)
 
 add-leads : tie.Need-add-leads
@@ -64,13 +64,13 @@ nobody-requires-3 : tie.Need-nobody-requires-3
 nobody-requires-3 c κs = search needs
 
 returns-3 : tie.Need-returns-3
-returns-3 c v t =
+returns-3 c =
     let e = c .before .before in
     let b = e .before .before in
     let d = b .before in
     let s = d .before .before .before .before .args in
-    ap (shownBeside (s .a .now)) (c .nobody3 .ensures)
-    ∙ behind-torn (s .a .now) (s .lists .now) v t (s .y) (d .before .free-at .result) (d .before .free-at .ensures) (d .if1 .left)
+    seen-nobody _ _ _ _ (c .nobody3 .result) (c .nobody3 .ensures) λ v t.
+    behind-torn (s .a .now) (s .lists .now) v t (s .y) (d .before .free-at .result) (d .before .free-at .ensures) (d .if1 .left)
     (sym (not-false _ (e .before .if2 .left)) ∙ b .is-busy2 .ensures)
     (says-no _ (e .leads .result) (e .leads .ensures) (not-true _ (c .before .if3 .taken)))
 
@@ -81,15 +81,17 @@ see-listed-requires c κs =
     (s .pre .0, s .pre .1, inside d .0, omega (arith, inside d))
 
 returns-4 : tie.Need-returns-4
-returns-4 c v t =
+returns-4 c =
     let e = c .before .before in
     let b = e .before .before in
     let d = b .before in
-    let s = d .before .before .before .before .args in
-    behind-listed (s .a .now) (s .lists .now) v t (s .y) (d .before .free-at .result) (d .before .free-at .ensures) (d .if1 .left)
-    (sym (not-false _ (e .before .if2 .left)) ∙ b .is-busy2 .ensures)
-    (says-yes _ (e .leads .result) (e .leads .ensures) (not-false _ (c .before .if3 .left)))
-    (c .see-listed .ensures v t)
+    let s = d .before .before .before .before .args in record {
+      answer = λ v t. behind-listed (s .a .now) (s .lists .now) v t (s .y) (d .before .free-at .result) (d .before .free-at .ensures) (d .if1 .left)
+          (sym (not-false _ (e .before .if2 .left)) ∙ b .is-busy2 .ensures)
+          (says-yes _ (e .leads .result) (e .leads .ensures) (not-false _ (c .before .if3 .left)))
+          (c .see-listed .ensures .answer v t);
+      list = c .see-listed .ensures .list;
+    }
 
 pub see-behind-spec : {M : Type 1} → statement M
 see-behind-spec =

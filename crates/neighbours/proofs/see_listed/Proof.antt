@@ -1,8 +1,7 @@
 -- `neighbours::see_listed`: the list of the size is known, or there is none, and the list says the rest.
 use native.Mathlib.Omega.{arith}
-use mathlib.Core.Path.{ap, _∙_}
 use Rattle.header.specs.Turned.{grains-few}
-use Rattle.neighbours.specs.Shown.{shownBeside}
+use Rattle.neighbours.specs.Shown.{seen-nobody, listed-some}
 use Rattle.neighbours.specs.Beside.{listed-none, listed-entry}
 use borrow.Author.Needs.{needs}
 use Rattle.neighbours.proofs.see_listed.Statement.{statement}
@@ -17,21 +16,23 @@ nobody-requires : tie.Need-nobody-requires
 nobody-requires c κs = search needs
 
 returns : tie.Need-returns
-returns c v u =
+returns c =
     let k = c .before .before in
     let s = k .before .before .before .args in
-    ap (shownBeside (s .a .now)) (c .nobody .ensures)
-    ∙ listed-none (s .a .now) (s .lists .now) v u (s .t) (s .y) (k .map-floor .result) (k .map-floor .ensures) (c .before .if1 .taken)
+    seen-nobody _ _ _ _ (c .nobody .result) (c .nobody .ensures) λ v u.
+    listed-none (s .a .now) (s .lists .now) v u (s .t) (s .y) (k .map-floor .result) (k .map-floor .ensures) (c .before .if1 .taken)
 
 see-entry-requires : tie.Need-see-entry-requires
 see-entry-requires c κs = search needs
 
 returns-2 : tie.Need-returns-2
-returns-2 c v u =
+returns-2 c =
     let k = c .before .before in
-    let s = k .before .before .before in
-    listed-entry (s .args .a .now) (s .args .lists .now) v u (s .args .t) (s .args .y) (k .map-floor .result) (k .map-floor .ensures) (c .before .if1 .left)
-    (s .pre .2) (c .see-entry .result) (c .see-entry .ensures v u)
+    let s = k .before .before .before in record {
+      answer = λ v u. listed-entry (s .args .a .now) (s .args .lists .now) v u (s .args .t) (s .args .y) (k .map-floor .result) (k .map-floor .ensures) (c .before .if1 .left)
+          (s .pre .2) (c .see-entry .result) (c .see-entry .ensures v u);
+      list = listed-some (s .args .t) (k .map-floor .result) (s .pre .2) (k .map-floor .ensures);
+    }
 
 pub see-listed-spec : {M : Type 1} → statement M
 see-listed-spec =

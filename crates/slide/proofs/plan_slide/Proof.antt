@@ -2,14 +2,14 @@
 -- neighbours, of which the one before is planned as it will be when the one behind left.
 use Prim.Native.Nat.{_-_, _≤_}
 use native.Mathlib.Omega.{arith}
-use mathlib.Core.Path.{_≡_, sym, subst}
+use mathlib.Core.Path.{sym, subst}
 use mathlib.Core.List.{[]}
 use borrow.Author.Tests.{not-true, not-false}
 use Rattle.align.specs.Align.{power-pos}
 use Rattle.invariants.specs.Placing.{place-some, place-most}
 use Rattle.header.specs.Turned.{grains-few}
-use Rattle.neighbours.specs.Leaving.{Known}
-use Rattle.neighbours.specs.Within.{Sighted, before-within, known-second}
+use Rattle.neighbours.specs.Leaving.{Known, firstOf}
+use Rattle.neighbours.specs.Within.{before-within, known-second}
 use Rattle.slide.specs.Steps.{slide-damaged, slide-alone, slide-joined}
 use borrow.Author.Needs.{needs}
 use Rattle.slide.proofs.plan_slide.Statement.{statement}
@@ -17,11 +17,11 @@ use Rattle.slide.proofs.plan_slide.Tie as tie
 
 -- the neighbour before starts in the arena
 before : (c : tie.Else1) → let f = c .before .before in let s = f .before .before .before .args in
-    (f .see-before .result .grains ≤ s .x) × ((f .see-before .result .grains ≡ 0 → ⊥) → Sighted (s .a .now) (f .see-before .result))
+    (f .see-before .result .grains ≤ s .x) × Known (s .a .now) (firstOf (f .see-before .result))
 before c =
     let f = c .before .before in
     let s = f .before .before .before in
-    before-within (s .args .a .now) (s .args .lists .now) [] [] (s .good .0 .0) (s .args .x) (f .see-before .result) (f .see-before .ensures [] []) (not-false _ (c .if1 .left))
+    before-within (s .args .a .now) (s .args .lists .now) [] [] (s .good .0 .0) (s .args .x) (f .see-before .result) (f .see-before .ensures) (not-false _ (c .if1 .left))
 
 see-before-requires : tie.Need-see-before-requires
 see-before-requires c κs = search needs
@@ -52,10 +52,8 @@ sub-z c = before (c .before .before .before) .0
 
 second-requires : tie.Need-second-requires
 second-requires c κs =
-    let i = c .before .before .before in
-    let s = i .before .before .before .before .before in
-    let n = grains-few (s .args .a .now) (s .good .0 .0) in
-    (omega (arith, before i .0, s .pre .0 .inside, n), omega (arith, s .pre .0 .inside, n))
+    let s = c .before .before .before .before .before .before .before .before in
+    omega (arith, s .pre .0 .inside, grains-few (s .args .a .now) (s .good .0 .0))
 
 place-of-requires : tie.Need-place-of-requires
 place-of-requires c κs =

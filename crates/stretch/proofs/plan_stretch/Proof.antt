@@ -1,26 +1,11 @@
 -- `stretch::plan_stretch`: nothing to do, or all hangs on what stands behind the block.
-use Prim.Native.Nat.{ℕ, _+_, _<_}
 use native.Mathlib.Omega.{arith}
-use mathlib.Core.Path.{_≡_}
 use borrow.Author.Tests.{not-true, not-false}
-use Rattle.slices.specs.Decode.{grains}
 use Rattle.header.specs.Turned.{grains-few}
-use Rattle.neighbours.specs.Leaving.{listed}
-use Rattle.stretch.specs.Shown.{Behind}
 use Rattle.stretch.specs.Steps.{plan-same, plan-damaged, plan-fit, plan-behind}
 use borrow.Author.Needs.{needs}
 use Rattle.stretch.proofs.plan_stretch.Statement.{statement}
 use Rattle.stretch.proofs.plan_stretch.Tie as tie
-
--- what stands behind the block, in whichever list, is in the arena and can leave
-behind : (c : tie.Else2) → let e = c .before .before in let s = e .before .before .before .before .args in
-    (s .x + (s .s + e .see-behind .result .grains) < grains 8 (s .a .now))
-    × ((k : ℕ) → k ≡ listed (e .see-behind .result .grains)
-    → Behind (s .a .now) (s .x) (s .s) (record { grains = e .see-behind .result .grains; list = k; next = e .see-behind .result .next; prev = e .see-behind .result .prev }))
-behind c =
-    let e = c .before .before in
-    let s = e .before .before .before .before in
-    plan-behind (s .args .a .now) (s .args .lists .now) (s .args .x) (s .args .s) (e .see-behind .result) (e .see-behind .ensures) (s .good .0 .0) (s .pre .0) (not-false _ (c .if2 .left))
 
 no-neighbour-requires : tie.Need-no-neighbour-requires
 no-neighbour-requires c κs = search needs
@@ -51,20 +36,17 @@ returns-2 c =
     let s = e .before .before .before .before .args in
     plan-damaged (s .a .now) (s .lists .now) (s .x) (s .s) (s .keep) (e .before .if1 .left) (e .see-behind .result) (e .see-behind .ensures) (c .refused .result) (c .refused .ensures) (not-true _ (c .before .if2 .taken))
 
-list-of-requires : tie.Need-list-of-requires
-list-of-requires c κs =
-    let s = c .before .before .before .before .before .before in
-    omega (arith, grains-few (s .args .a .now) (s .good .0 .0), behind c .0)
-
 fit-requires : tie.Need-fit-requires
-fit-requires c κs = (behind (c .before) .1 (c .list-of .result) (c .list-of .ensures), c .before .before .before .before .before .before .before .pre .1)
+fit-requires c κs =
+    let e = c .before .before in
+    let s = e .before .before .before .before in
+    (plan-behind (s .args .a .now) (s .args .lists .now) (s .args .x) (s .args .s) (e .see-behind .result) (e .see-behind .ensures) (s .good .0 .0) (s .pre .0) (not-false _ (c .if2 .left)), s .pre .1)
 
 returns-3 : tie.Need-returns-3
 returns-3 c =
-    let k = c .before in
-    let e = k .before .before .before in
+    let e = c .before .before .before in
     let s = e .before .before .before .before .args in
-    plan-fit (s .a .now) (s .lists .now) (s .x) (s .s) (s .keep) (e .before .if1 .left) (e .see-behind .result) (e .see-behind .ensures) (c .fit .result) (k .list-of .result) (not-false _ (k .before .if2 .left)) (c .fit .ensures)
+    plan-fit (s .a .now) (s .lists .now) (s .x) (s .s) (s .keep) (e .before .if1 .left) (e .see-behind .result) (e .see-behind .ensures) (c .fit .result) (not-false _ (c .before .if2 .left)) (c .fit .ensures)
 
 pub plan-stretch-spec : {M : Type 1} → statement M
 plan-stretch-spec =
@@ -77,6 +59,5 @@ plan-stretch-spec =
     see-behind-requires
     refused-requires
     returns-2
-    list-of-requires
     fit-requires
     returns-3)
