@@ -1,30 +1,29 @@
 -- The steps of `seeBehind` and of `seeBefore`, as the code takes them: at each return one law says what the script answers.
-use Prim.Native.Nat.{ℕ, suc, _+_, _*_, _≤_, _<_}
+use Prim.Native.Nat.{ℕ, suc, _+_, _-_, _*_, _≤_, _<_}
 use native.Mathlib.Omega.{arith}
 use mathlib.Core.Path.{_≡_, refl, ap, sym, _∙_}
 use mathlib.Core.Bool.{Bool, true, false}
 use mathlib.Core.List.{List}
 use mathlib.Core.Logic.{⊎-elim}
-use lib.Dec.{eqb}
 use lib.ListN.{length}
-use borrow.Author.Tests.{eq-eqb, ne-eqb}
-use Rattle.choice.specs.Choice.{eq-yes, eq-no, le?, same?}
+use Rattle.choice.specs.Choice.{eq-yes, eq-no, le?}
 use Rattle.class.specs.Class.{listOf}
 use Rattle.word.specs.Word.{wordAt}
 use Rattle.bits.specs.Map.{lists}
 use Rattle.script.specs.Memory.{Memory, Size, Before, none}
-use Rattle.script.specs.Script.{Script, Result, run, ok, no, done, stop, _>>=_, _>>_, mustEq, mustLe, goes, halts, reads, gives-done, gives-eq, gives-le, halts-eq, halts-le, runs-stop}
-use Rattle.sound.specs.Checks.{Word, isFree, isUsed, isLast, isBad, wordOf, Entry, Beside, nobody, somebody, asBusy, mustBusy, mustLead, mustList, seeEntry, freeBehind, asBehind, seeBehind, freeBefore, asBefore, seeBefore}
+use Rattle.script.specs.Script.{Script, Result, run, ok, no, done, _>>=_, _>>_, mustEq, mustLe, goes, halts, reads, gives-done, gives-eq, gives-le, halts-eq, halts-le, runs-stop}
+use Rattle.sound.specs.Checks.{Word, isFree, isUsed, isLast, isBad, wordOf, Entry, Beside, nobody, somebody, asBusy, mustBusy, mustLead, mustList, seeEntry, freeBehind, asBehind, seeBehind, asBefore, seeBefore}
 use Rattle.slices.specs.Decode.{grains, Inside}
 use Rattle.slices.specs.Arena.{sizeAt, linkAt, size-inside}
 use Rattle.slices.specs.Slices.{memory-size}
 use Rattle.header.specs.Turned.{turned}
-use Rattle.header.specs.Told.{freeOf, usedOf, busyOf}
+use Rattle.header.specs.Told.{freeOf, busyOf}
 use Rattle.free_list.specs.Lent.{lent, held, classes, noLink, link, link-none, link-some, link-grain}
 use Rattle.free_list.specs.Answers.{answer}
 use Rattle.free_list.specs.Seen.{shownEntry}
 use Rattle.free_list.specs.declared.Entry.{Entry as EntryAnswer}
 use Rattle.neighbours.specs.declared.Beside.{Beside as BesideAnswer}
+use Rattle.neighbours.specs.Size.{Spelled, word-spelled, free-word, used-word}
 use Rattle.neighbours.specs.Shown.{before-read, before-link, link-from, alone, shownBeside, someone, someone-is, SeenBeside}
 
 -- ---- a free block in the list of its size
@@ -182,7 +181,7 @@ module _ (a l v r : List ℕ) (x w : ℕ) (s : length a < 18446744073709551616) 
         sym (reads m Before x _ (before-link a l v r x i w e) ∙ ap (run m) (eq-no (link a w) none _ _ (link-some a w s ne))
         ∙ halts m (mustLe (suc (link a w)) x) _ (halts-le m 5 (suc (link a w)) x o))
 
-    module _ (h : z < x) (t : ℕ) (f : t ≡ freeOf (wordOf (sizeAt 8 a z))) where
+    module _ (h : z < x) where
       -- the size word of the block before is read
       before-word : run (held a l v r) (seeBefore (grains 8 a) classes x) ≡ run (held a l v r) (asBefore (grains 8 a) classes x z (wordOf (sizeAt 8 a z)))
       unfolding seeBefore
@@ -194,40 +193,38 @@ module _ (a l v r : List ℕ) (x w : ℕ) (s : length a < 18446744073709551616) 
           reads m Before x _ k ∙ ap (run m) (eq-no z none _ _ some)
           ∙ goes m (mustLe (suc z) x) _ (gives-le m 5 (suc z) x h) ∙ reads m Size z _ (memory-size 8 (lent a l v r) z)
 
-      -- a used block that reaches to x, or not
-      pub before-used : t ≡ 0 → (u : ℕ) → u ≡ usedOf (wordOf (sizeAt 8 a z)) → shownBeside a (alone (eqb (z + u) x)) ≡ run (held a l v r) (seeBefore (grains 8 a) classes x)
-      before-used q u p = go (wordOf (sizeAt 8 a z)) p (sym q ∙ f) (size-inside 8 a z) ∙ sym before-word
-        where
-          refusing : Script Beside
-          refusing = stop 5
+      -- and known
+      before-is : (o : Word) → wordOf (sizeAt 8 a z) ≡ o → run (held a l v r) (seeBefore (grains 8 a) classes x) ≡ run (held a l v r) (asBefore (grains 8 a) classes x z o)
+      before-is o q = before-word ∙ ap (λ (o : Word). run (held a l v r) (asBefore (grains 8 a) classes x z o)) q
 
-          refuse : (u : ℕ) → u ≡ 0 → shownBeside a (alone (eqb (z + u) x)) ≡ run (held a l v r) refusing
-          refuse u e = ap (λ (b : Bool). shownBeside a (alone b)) (ne-eqb (z + u) x (λ d. omega arith)) ∙ sym (runs-stop (held a l v r) 5)
+      -- it is compared with the bytes from z to x
+      module _ (u b : ℕ) (f : u ≡ wordAt 8 a (4 * z + 0)) (c : b ≡ 32 * (x - z)) where
+        reaches : z + (x - z) ≡ x
+        reaches = omega arith
 
-          go : (w : Word) → u ≡ usedOf w → 0 ≡ freeOf w → Inside (grains 8 a) z w → shownBeside a (alone (eqb (z + u) x)) ≡ run (held a l v r) (asBefore (grains 8 a) classes x z w)
-          go (isFree s) p q i = absurd (omega (arith, i .0))
-          go (isUsed s) p q i =
-              let m = held a l v r in
-              ⊎-elim
-              (λ (d : z + s ≡ x). ap (λ (b : Bool). shownBeside a (alone b)) (eq-eqb (z + u) x (ap (λ (n : ℕ). z + n) p ∙ d))
-              ∙ sym (goes m (mustEq (z + s) x) _ (gives-eq m 5 (z + s) x d) ∙ gives-done m nobody))
-              (λ (d : z + s ≡ x → ⊥). ap (λ (b : Bool). shownBeside a (alone b)) (ne-eqb (z + u) x (λ c. d (sym (ap (λ (n : ℕ). z + n) p) ∙ c)))
-              ∙ sym (halts m (mustEq (z + s) x) _ (halts-eq m 5 (z + s) x d)))
-              (same? (z + s) x)
-          go isLast p q i = refuse u p
-          go isBad p q i = refuse u p
+        inside : z + (x - z) < grains 8 a
+        inside = omega arith
 
-      module _ (n : t ≡ 0 → ⊥) where
-        -- a free block
-        before-free : run (held a l v r) (seeBefore (grains 8 a) classes x) ≡ run (held a l v r) (freeBefore (grains 8 a) classes x z t)
-        before-free =
-            let w : wordOf (sizeAt 8 a z) ≡ isFree t = free-some (wordOf (sizeAt 8 a z)) (λ p. n (f ∙ p)) ∙ ap isFree (sym f) in
-            before-word ∙ ap (λ (w : Word). run (held a l v r) (asBefore (grains 8 a) classes x z w)) w
+        -- a used block
+        pub before-used : u ≡ b + 1 → ok nobody ≡ run (held a l v r) (seeBefore (grains 8 a) classes x)
+        before-used q =
+            let m = held a l v r in
+            sym (before-is (isUsed (x - z)) (used-word a z (x - z) u s (omega arith) inside f (omega arith))
+            ∙ goes m (mustEq (z + (x - z)) x) _ (gives-eq m 5 (z + (x - z)) x reaches) ∙ gives-done m nobody)
 
-        -- a free block that doesn't reach to x
-        pub before-apart : (z + t ≡ x → ⊥) → no 5 ≡ run (held a l v r) (seeBefore (grains 8 a) classes x)
-        before-apart d = let m = held a l v r in sym (before-free ∙ halts m (mustEq (z + t) x) _ (halts-eq m 5 (z + t) x d))
+        -- a free block: the rest hangs on the list
+        pub before-listed : u ≡ b → {o : Result Beside} → o ≡ run (held a l v r) (seeListed (grains 8 a) (x - z) z) → o ≡ run (held a l v r) (seeBefore (grains 8 a) classes x)
+        before-listed q k =
+            let m = held a l v r in
+            k ∙ sym (before-is (isFree (x - z)) (free-word a z (x - z) u s (omega arith) inside f (omega arith))
+            ∙ goes m (mustEq (z + (x - z)) x) _ (gives-eq m 5 (z + (x - z)) x reaches))
 
-        -- the rest hangs on the list
-        pub before-listed : z + t ≡ x → {o : Result Beside} → o ≡ run (held a l v r) (seeListed (grains 8 a) t z) → o ≡ run (held a l v r) (seeBefore (grains 8 a) classes x)
-        before-listed d q = let m = held a l v r in q ∙ sym (before-free ∙ goes m (mustEq (z + t) x) _ (gives-eq m 5 (z + t) x d))
+        -- no block that reaches to x
+        pub before-apart : (u ≡ b + 1 → ⊥) → (u ≡ b → ⊥) → no 5 ≡ run (held a l v r) (seeBefore (grains 8 a) classes x)
+        before-apart used free = sym (before-word ∙ go (wordOf (sizeAt 8 a z)) (word-spelled a z u (omega arith) f))
+          where
+            go : (o : Word) → Spelled u o → run (held a l v r) (asBefore (grains 8 a) classes x z o) ≡ no 5
+            go (isFree t) d = let m = held a l v r in halts m (mustEq (z + t) x) _ (halts-eq m 5 (z + t) x (λ q. free (omega arith)))
+            go (isUsed t) d = let m = held a l v r in halts m (mustEq (z + t) x) _ (halts-eq m 5 (z + t) x (λ q. used (omega arith)))
+            go isLast d = runs-stop (held a l v r) 5
+            go isBad d = runs-stop (held a l v r) 5

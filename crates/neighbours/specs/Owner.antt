@@ -16,6 +16,7 @@ use Rattle.slices.specs.Slices.{memory-size, memory-prev, memory-live}
 use Rattle.header.specs.Turned.{turned}
 use Rattle.header.specs.Told.{usedOf}
 use Rattle.free_list.specs.Lent.{lent, held, link, link-grain}
+use Rattle.neighbours.specs.Size.{used-some}
 use Rattle.neighbours.specs.Shown.{before-read, link-from, shownGrain}
 
 -- ---- the grain of the block
@@ -84,13 +85,7 @@ ownerOf q x s = do
 abbrev pub ownerAt : ℕ → ℕ → Script Owner
 ownerAt q x = mustUsed x >>= ownerOf q x
 
--- the word of a used block passes, and no other
-used-some : (w : Word) → (usedOf w ≡ 0 → ⊥) → w ≡ isUsed (usedOf w)
-used-some (isFree s) h = absurd (h refl)
-used-some (isUsed s) h = refl
-used-some isLast h = absurd (h refl)
-used-some isBad h = absurd (h refl)
-
+-- only the word of a used block passes
 used-none : (m : Memory) (n g : ℕ) (w : Word) → Inside n g w → usedOf w ≡ 0 → run m (asUsed w) ≡ no 5
 used-none m n g (isFree s) i h = runs-stop m 5
 used-none m n g (isUsed s) i h = absurd (omega (arith, i .0))

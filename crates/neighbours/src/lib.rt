@@ -14,6 +14,7 @@ use bits::LISTS;
 use header::BEFORE;
 use header::NONE;
 use header::PREV;
+use header::SIZE;
 
 // No such payload is live.
 const NOT_LIVE: u64 = 3;
@@ -119,7 +120,7 @@ pub fn see_behind(a: &[u8], lists: &[u64], y: usize) -> Beside
     see_listed(a, lists, t, y)
 }
 
-// What stands before the block at x.
+// What stands before the block at x: the size word is that of a free block which reaches to x, or of a used one.
 pub fn see_before(a: &[u8], lists: &[u64], x: usize) -> Beside
     requires { ⌜ (x < grains 8 (now a)) × Long (now lists) ⌝ }
     ensures { λ r. ⌜ SeenBefore (now (a .entry)) (now (lists .entry)) x r ⌝ }
@@ -132,11 +133,13 @@ pub fn see_before(a: &[u8], lists: &[u64], x: usize) -> Beside
     if x <= z {
         return nobody(false);
     }
-    let t = header::free_at(a, z);
-    if t == 0 {
-        return nobody(z + header::used_at(a, z) == x);
+    let t = x - z;
+    let size = header::field(a, z, SIZE);
+    let bytes = header::bytes_of(t);
+    if size == bytes + 1 {
+        return nobody(true);
     }
-    if z + t != x {
+    if size != bytes {
         return nobody(false);
     }
     see_listed(a, lists, t, z)
