@@ -9,7 +9,7 @@ use Rattle.bits.specs.Map.{lists}
 use Rattle.class.specs.Class.{listOf}
 use Rattle.script.specs.Memory.{Next, root, Write, latest}
 use Rattle.script.specs.Script.{done, ok, no, run, _>>=_, goes, halts, gives-done, gives-le, halts-le}
-use Rattle.sound.specs.Checks.{Owner, mustList, seeHead, seeBehind, seeBefore, seeOwner}
+use Rattle.sound.specs.Checks.{Owner, Beside, mustList, seeHead, seeBehind, seeBefore, seeOwner}
 use Rattle.sound.specs.Links.{pushWrites}
 use Rattle.sound.specs.Plans.{roomOf, bothLeave, freeWrites, joinScript, giveBackScript}
 use Rattle.slices.specs.Decode.{grains}
@@ -21,8 +21,9 @@ use Rattle.neighbours.specs.Shown.{shownOwner, SeenBehind, SeenBefore}
 use Rattle.neighbours.specs.declared.Owner.{Owner as OwnerAnswer}
 use Rattle.neighbours.specs.declared.Beside.{Beside as BesideAnswer}
 use Rattle.neighbours.specs.declared.Neighbour.{Neighbour}
-use Rattle.neighbours.specs.Leaving.{bothLeaving, firstOf, secondOf, seenOf, room-is, both-leave}
-use Rattle.deallocate.specs.Shown.{mergeScript}
+use Rattle.neighbours.specs.Leaving.{leavingOf, bothLeaving, leaving-nobody, secondOf, behindOf, seenOf, room-is, both-leave}
+use Rattle.neighbours.specs.Within.{Behind}
+use Rattle.deallocate.specs.Shown.{beforeScript, mergeScript}
 
 -- ---- the list of the joined block, of g grains at z
 
@@ -54,30 +55,50 @@ module _ (a l v t : List ℕ) (q z g k : ℕ) (w : List Write) (e : k ≡ listOf
 
 -- ---- the neighbours
 
+-- e was seen behind
 module _ (a l v t : List ℕ) (q x s : ℕ) (e : BesideAnswer) (p : SeenBehind a l (x + s) e) where
-  -- what is behind doesn't agree
-  pub merge-behind-out : e .ok ≡ false → no 5 ≡ run (held a l v t) (mergeScript (grains 8 a) q x s)
-  merge-behind-out o = sym (halts (held a l v t) (seeBehind (grains 8 a) classes (x + s)) _ (sym (p .answer v t) ∙ ap (λ (b : Bool). answer b (seenOf a e)) o))
+  -- it doesn't agree
+  pub merge-out : e .ok ≡ false → no 5 ≡ run (held a l v t) (mergeScript (grains 8 a) q x s)
+  merge-out o = sym (halts (held a l v t) (seeBehind (grains 8 a) classes (x + s)) _ (sym (p .answer v t) ∙ ap (λ (b : Bool). answer b (seenOf a e)) o))
 
-  module _ (o : e .ok ≡ true) (f : BesideAnswer) (d : SeenBefore a l x f) where
-    merge-behind : run (held a l v t) (mergeScript (grains 8 a) q x s) ≡ run (held a l v t) (seeBefore (grains 8 a) classes x >>= (λ b.
-        joinScript (grains 8 a) classes q (x - roomOf b) (roomOf b + (s + roomOf (seenOf a e))) (bothLeave (seenOf a e) (x - roomOf b) b)))
-    merge-behind = goes (held a l v t) (seeBehind (grains 8 a) classes (x + s)) _ (sym (p .answer v t) ∙ ap (λ (b : Bool). answer b (seenOf a e)) o)
+  -- it does, and is told on as b
+  pub merge-seen : e .ok ≡ true → (b : Beside) → b ≡ seenOf a e → run (held a l v t) (beforeScript (grains 8 a) q x s b) ≡ run (held a l v t) (mergeScript (grains 8 a) q x s)
+  merge-seen o b i =
+      ap (λ (b : Beside). run (held a l v t) (beforeScript (grains 8 a) q x s b)) i
+      ∙ sym (goes (held a l v t) (seeBehind (grains 8 a) classes (x + s)) _ (sym (p .answer v t) ∙ ap (λ (b : Bool). answer b (seenOf a e)) o))
 
-    -- what is before doesn't
-    pub merge-before-out : f .ok ≡ false → no 5 ≡ run (held a l v t) (mergeScript (grains 8 a) q x s)
-    merge-before-out c = sym (merge-behind ∙ halts (held a l v t) (seeBefore (grains 8 a) classes x) _ (sym (d .answer v t) ∙ ap (λ (b : Bool). answer b (seenOf a f)) c))
+-- e stands behind, and f was seen before
+module _ (a l v t : List ℕ) (q x s : ℕ) (e : Neighbour) (b : Behind a x s e) (f : BesideAnswer) (d : SeenBefore a l x f) where
+  -- it doesn't agree
+  pub before-out : f .ok ≡ false → no 5 ≡ run (held a l v t) (beforeScript (grains 8 a) q x s (behindOf a e))
+  before-out c = sym (halts (held a l v t) (seeBefore (grains 8 a) classes x) _ (sym (d .answer v t) ∙ ap (λ (b : Bool). answer b (seenOf a f)) c))
 
-    -- both do
-    pub merged : f .ok ≡ true → length a < 18446744073709551616 → x - f .grains < grains 8 a → (b : Neighbour) → b ≡ secondOf (firstOf e) (x - f .grains) f
-        → run (held a l v t) (joinScript (grains 8 a) classes q (x - f .grains) (f .grains + (s + e .grains)) (bothLeaving a (firstOf e) b))
-        ≡ run (held a l v t) (mergeScript (grains 8 a) q x s)
-    merged c few h b i = sym (
-        merge-behind ∙ goes (held a l v t) (seeBefore (grains 8 a) classes x) _ (sym (d .answer v t) ∙ ap (λ (b : Bool). answer b (seenOf a f)) c)
-        ∙ ap (λ (r : ℕ). run (held a l v t) (joinScript (grains 8 a) classes q (x - r) (r + (s + roomOf (seenOf a e))) (bothLeave (seenOf a e) (x - r) (seenOf a f)))) (room-is (f .grains) _)
-        ∙ ap (λ (r : ℕ). run (held a l v t) (joinScript (grains 8 a) classes q (x - f .grains) (f .grains + (s + r)) (bothLeave (seenOf a e) (x - f .grains) (seenOf a f)))) (room-is (e .grains) _)
+  module _ (c : f .ok ≡ true) (few : length a < 18446744073709551616) where
+    before-seen : run (held a l v t) (beforeScript (grains 8 a) q x s (behindOf a e))
+        ≡ run (held a l v t) (joinScript (grains 8 a) classes q (x - f .grains) (f .grains + (s + e .grains)) (bothLeaving a e (secondOf e (x - f .grains) f)))
+    before-seen =
+        goes (held a l v t) (seeBefore (grains 8 a) classes x) _ (sym (d .answer v t) ∙ ap (λ (b : Bool). answer b (seenOf a f)) c)
+        ∙ ap (λ (r : ℕ). run (held a l v t) (joinScript (grains 8 a) classes q (x - r) (r + (s + roomOf (behindOf a e))) (bothLeave (behindOf a e) (x - r) (seenOf a f)))) (room-is (f .grains) _)
+        ∙ ap (λ (r : ℕ). run (held a l v t) (joinScript (grains 8 a) classes q (x - f .grains) (f .grains + (s + r)) (bothLeave (behindOf a e) (x - f .grains) (seenOf a f)))) (room-is (e .grains) _)
         ∙ ap (λ (w : List Write). run (held a l v t) (joinScript (grains 8 a) classes q (x - f .grains) (f .grains + (s + e .grains)) w))
-        (both-leave a (firstOf e) f (x - f .grains) few h (p .list) (d .list) ∙ ap (bothLeaving a (firstOf e)) (sym i)))
+        (both-leave a e f (x - f .grains) few (omega (arith, b .inside)) (b .list) (d .list))
+
+    -- a free block, which leaves as g
+    pub before-joined : (g : Neighbour) → g ≡ secondOf e (x - f .grains) f
+        → run (held a l v t) (joinScript (grains 8 a) classes q (x - f .grains) (f .grains + (s + e .grains)) (bothLeaving a e g)) ≡ run (held a l v t) (beforeScript (grains 8 a) q x s (behindOf a e))
+    before-joined g i =
+        ap (λ (g : Neighbour). run (held a l v t) (joinScript (grains 8 a) classes q (x - f .grains) (f .grains + (s + e .grains)) (bothLeaving a e g))) i ∙ sym before-seen
+
+    -- nobody, as g is nobody
+    pub before-alone : f .grains ≡ 0 → (g : Neighbour) → g .grains ≡ 0
+        → run (held a l v t) (joinScript (grains 8 a) classes q x (s + e .grains) (bothLeaving a e g)) ≡ run (held a l v t) (beforeScript (grains 8 a) q x s (behindOf a e))
+    before-alone n g m =
+        let h = secondOf e (x - f .grains) f in
+        let start : x ≡ x - f .grains = omega arith in
+        let size : s + e .grains ≡ f .grains + (s + e .grains) = omega arith in
+        ap (λ (w : List Write). run (held a l v t) (joinScript (grains 8 a) classes q x (s + e .grains) (leavingOf a e ++ w))) (leaving-nobody a g m ∙ sym (leaving-nobody a h n))
+        ∙ ap (λ (z : ℕ). run (held a l v t) (joinScript (grains 8 a) classes q z (s + e .grains) (bothLeaving a e h))) start
+        ∙ ap (λ (r : ℕ). run (held a l v t) (joinScript (grains 8 a) classes q (x - f .grains) r (bothLeaving a e h))) size ∙ sym before-seen
 
 -- ---- the owner
 

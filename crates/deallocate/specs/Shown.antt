@@ -7,7 +7,7 @@ use lib.ListN.{length}
 use Rattle.bits.specs.Map.{lists}
 use Rattle.script.specs.Memory.{Write}
 use Rattle.script.specs.Script.{Script, Result, no, run, _>>=_}
-use Rattle.sound.specs.Checks.{seeBehind, seeBefore}
+use Rattle.sound.specs.Checks.{Beside, seeBehind, seeBefore}
 use Rattle.sound.specs.Links.{pushWrites}
 use Rattle.sound.specs.Plans.{Plan, roomOf, bothLeave, freeWrites, joinScript, giveBackScript}
 use Rattle.slices.specs.Decode.{grains, grains-keep}
@@ -18,6 +18,11 @@ use Rattle.deallocate.specs.declared.Plan.{Plan as PlanAnswer}
 
 -- ---- the writes
 
+-- of the joined block
+abbrev pub joinedWrites : List ℕ → ℕ → PlanAnswer → List Write
+joinedWrites a q r = pushWrites (r .list) (r .at) (link a (r .head)) ++ freeWrites q (r .at) (r .grains)
+
+-- of all: its neighbours left before
 abbrev pub backWrites : List ℕ → ℕ → PlanAnswer → List Write
 backWrites a q r = (bothLeaving a (r .behind) (r .before) ++ pushWrites (r .list) (r .at) (link a (r .head))) ++ freeWrites q (r .at) (r .grains)
 
@@ -64,11 +69,14 @@ damaged-unable a r e f = absurd (omega arith)
 
 -- ---- the script behind the owner, a used block of s grains at x
 
-abbrev pub mergeScript : ℕ → ℕ → ℕ → ℕ → Script Plan
-mergeScript n q x s = do
-  a ← seeBehind n classes (x + s)
+-- behind which a stands
+abbrev pub beforeScript : ℕ → ℕ → ℕ → ℕ → Beside → Script Plan
+beforeScript n q x s a = do
   b ← seeBefore n classes x
   joinScript n classes q (x - roomOf b) (roomOf b + (s + roomOf a)) (bothLeave a (x - roomOf b) b)
+
+abbrev pub mergeScript : ℕ → ℕ → ℕ → ℕ → Script Plan
+mergeScript n q x s = seeBehind n classes (x + s) >>= beforeScript n q x s
 
 -- a plan r of the code, for a script S that plans the return of a payload
 pub record Planned (a l : List ℕ) (S : ℕ → Script Plan) (r : PlanAnswer) : Type 0 where

@@ -2,8 +2,8 @@
 -- marked as free at both ends, and its payload is not live any more.
 use Prim.Native.Nat.{ℕ, _+_, _*_, _<_}
 use native.Mathlib.Omega.{arith}
-use mathlib.Core.Path.{_≡_, refl, ap, sym, _∙_}
-use mathlib.Core.List.{List, _++_}
+use mathlib.Core.Path.{_≡_, refl, ap, sym, _∙_, subst}
+use mathlib.Core.List.{List, _++_, append-assoc}
 use lib.ListN.{length}
 use Rattle.choice.specs.Choice.{eq-yes}
 use Rattle.word.specs.Word.{putAt}
@@ -13,24 +13,16 @@ use Rattle.sound.specs.Links.{pushWrites}
 use Rattle.sound.specs.Plans.{freeWrites}
 use Rattle.slices.specs.Decode.{grains, sizeWord, free-stored}
 use Rattle.slices.specs.Arena.{putSize, putLink}
-use Rattle.free_list.specs.Lent.{lent, link, link-keep, grain-stored}
-use Rattle.free_list.specs.Written.{Written, WrittenLive, live-then, written-then, written-as, written-length}
-use Rattle.neighbours.specs.declared.Neighbour.{Neighbour}
+use Rattle.slices.specs.Slices.{stores}
+use Rattle.free_list.specs.Lent.{lent, link, Long, link-keep, grain-stored}
+use Rattle.free_list.specs.Written.{Written, WrittenLive, live-then, written-length, written-room}
 use Rattle.neighbours.specs.Leaving.{bothLeaving}
 use Rattle.deallocate.specs.declared.Plan.{Plan as PlanAnswer}
-use Rattle.deallocate.specs.Shown.{Able}
+use Rattle.deallocate.specs.Shown.{joinedWrites, backWrites, Able, able-keep}
 
 -- the joined block starts in the arena
 pub at-start : (a : List ℕ) (r : PlanAnswer) → Able a r → r .at < grains 8 a
 at-start a r h = omega (arith, h .inside)
-
--- ---- both, and the joined block at the head of its list
-
-pub relisted : (e f : Neighbour) (k z h : ℕ) {a l b m c o : List ℕ} → Written a l (bothLeaving a e f) b m → Written b m (pushWrites k z (link b h)) c o
-    → Written a l (bothLeaving a e f ++ pushWrites k z (link a h)) c o
-relisted e f k z h {a} {b = b} i u =
-    written-then {p = bothLeaving a e f} {q = pushWrites k z (link a h)} i
-    (written-as {p = pushWrites k z (link b h)} (ap (pushWrites k z) (sym (link-keep a b h (written-length {w = bothLeaving a e f} i)))) u)
 
 -- ---- its two ends
 
@@ -53,3 +45,18 @@ freed-words a b c z t u w s h d e f g =
 pub returned : (q z t : ℕ) (w : List Write) {a l b m c v o : List ℕ} → Written a l w b m → c ≡ freed b z t → o ≡ clearTableBit v q → WrittenLive a l v (w ++ freeWrites q z t) c m o
 returned q z t w {b = b} {m = m} {v = v} {o = o} f e d = live-then {p = w} (freeWrites q z t) f (λ u.
     ap (λ (x : List ℕ). lent x m o u) e ∙ ap (λ (x : List ℕ). lent (freed b z t) m x u) (d ∙ sym (eq-yes 0 0 (clearTableBit v q) (setTableBit v q) refl)))
+
+-- ---- after both left
+
+-- what is asked for stays
+pub able-after : {a l b m : List ℕ} {w : List Write} (r : PlanAnswer) → Written a l w b m → Able a r → Long l → Able b r × Long m
+able-after {a} {b = b} {w = w} r f h o = (able-keep a b r (written-length {w = w} f) h, written-room {w = w} 0 f (record { known = omega arith; room = o }) .room)
+
+-- the joined block is written behind their leaving
+pub joined-after : (q : ℕ) (r : PlanAnswer) {a l v b m c n o : List ℕ} → Written a l (bothLeaving a (r .behind) (r .before)) b m → WrittenLive b m v (joinedWrites b q r) c n o
+    → WrittenLive a l v (backWrites a q r) c n o
+joined-after q r {a} {l} {v} {b} {m} {c} {n} {o} f g =
+    let w = bothLeaving a (r .behind) (r .before) in
+    subst (λ (w : List Write). WrittenLive a l v w c n o) (sym (append-assoc w (pushWrites (r .list) (r .at) (link a (r .head))) (freeWrites q (r .at) (r .grains))))
+    (live-then {p = w} (joinedWrites a q r) f (λ t. g .slices t
+    ∙ ap (λ (h : ℕ). stores 8 (lent b m v t) (pushWrites (r .list) (r .at) h ++ freeWrites q (r .at) (r .grains))) (link-keep a b (r .head) (written-length {w = w} f))))

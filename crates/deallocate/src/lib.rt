@@ -7,8 +7,9 @@ ghost use Rattle.sound.specs.Plans.{joinScript};
 ghost use Rattle.slices.specs.Decode.{grains};
 ghost use Rattle.free_list.specs.Written.{WrittenLive};
 ghost use Rattle.free_list.specs.Lent.{classes, Long};
-ghost use Rattle.neighbours.specs.Leaving.{Known, bothLeaving};
-ghost use Rattle.deallocate.specs.Shown.{backWrites, Able, Planned, BackPlanned, mergeScript};
+ghost use Rattle.neighbours.specs.Leaving.{Known, bothLeaving, behindOf};
+ghost use Rattle.neighbours.specs.Within.{Behind};
+ghost use Rattle.deallocate.specs.Shown.{backWrites, joinedWrites, Able, Planned, BackPlanned, beforeScript, mergeScript};
 ghost use Rattle.deallocate.specs.Written.{freed};
 use bits::LISTS;
 use header::BEFORE;
@@ -54,19 +55,35 @@ fn plan_merge(a: &[u8], lists: &[u64], x: usize, s: usize) -> Plan
     if !e.ok {
         return refused(DAMAGED);
     }
-    let f = neighbours::see_before(a, lists, x);
-    if !f.ok {
-        return refused(DAMAGED);
+    if e.grains == 0 {
+        return plan_before(a, lists, x, s, neighbours::no_neighbour());
     }
-    let z = x - f.grains;
     let behind = Neighbour {
         grains: e.grains,
         list: e.list,
         next: e.next,
         prev: e.prev,
     };
+    plan_before(a, lists, x, s, behind)
+}
+
+// The same, where what stands behind it was seen.
+fn plan_before(a: &[u8], lists: &[u64], x: usize, s: usize, behind: Neighbour) -> Plan
+    requires { ⌜ (1 ≤ s) × Behind (now a) x s behind × Long (now lists) ⌝ }
+    ensures { λ r. ⌜ Planned (now (a .entry)) (now (lists .entry))
+        (λ q. beforeScript (grains 8 (now (a .entry))) q x s (behindOf (now (a .entry)) behind)) r ⌝ }
+{
+    let f = neighbours::see_before(a, lists, x);
+    if !f.ok {
+        return refused(DAMAGED);
+    }
+    let t = s + behind.grains;
+    if f.grains == 0 {
+        return plan_join(a, lists, x, t, behind, neighbours::no_neighbour());
+    }
+    let z = x - f.grains;
     let before = neighbours::second(behind, z, f);
-    plan_join(a, lists, z, f.grains + (s + e.grains), behind, before)
+    plan_join(a, lists, z, f.grains + t, behind, before)
 }
 
 // The joined block of t grains at z goes to its list, after both neighbours left.
@@ -119,13 +136,37 @@ fn refused(why: u64) -> Plan
 
 // ---- what is written
 
-// What was planned for the payload at q.
+// What was planned for the payload at q. Whether each neighbour is there is asked once.
 pub fn apply_back(a: &mut [u8], lists: &mut [u64], live: &mut [u64], q: usize, p: Plan)
     requires { ⌜ Able (now a) p × Long (now lists) × (q < 64 * length (now live)) ⌝ }
     ensures { λ r. ⌜ WrittenLive (now (a .entry)) (now (lists .entry)) (now (live .entry)) (backWrites (now (a .entry)) q p)
         (now (a .exit)) (now (lists .exit)) (now (live .exit)) ⌝ }
 {
-    neighbours::leave_both(a, lists, p.behind, p.before);
+    if p.behind.grains == 0 {
+        if p.before.grains == 0 {
+            put_joined(a, lists, live, q, p);
+            return;
+        }
+        free_list::unlink(a, lists, p.before.list, p.before.next, p.before.prev);
+        put_joined(a, lists, live, q, p);
+        return;
+    }
+    if p.before.grains == 0 {
+        free_list::unlink(a, lists, p.behind.list, p.behind.next, p.behind.prev);
+        put_joined(a, lists, live, q, p);
+        return;
+    }
+    free_list::unlink(a, lists, p.behind.list, p.behind.next, p.behind.prev);
+    free_list::unlink(a, lists, p.before.list, p.before.next, p.before.prev);
+    put_joined(a, lists, live, q, p);
+}
+
+// The joined block, whose neighbours left, goes to its list, and its payload at q is live no more.
+fn put_joined(a: &mut [u8], lists: &mut [u64], live: &mut [u64], q: usize, p: Plan)
+    requires { ⌜ Able (now a) p × Long (now lists) × (q < 64 * length (now live)) ⌝ }
+    ensures { λ r. ⌜ WrittenLive (now (a .entry)) (now (lists .entry)) (now (live .entry)) (joinedWrites (now (a .entry)) q p)
+        (now (a .exit)) (now (lists .exit)) (now (live .exit)) ⌝ }
+{
     free_list::push(a, lists, p.list, p.at, p.head);
     put_free(a, p.at, p.grains);
     bits::clear_table_bit(live, q);

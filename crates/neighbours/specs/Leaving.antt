@@ -3,19 +3,19 @@
 use Prim.Native.Nat.{ℕ, zero, suc, _*_, _<_}
 use native.Mathlib.Omega.{arith}
 use mathlib.Core.Path.{_≡_, refl, ap, sym, _∙_}
-use mathlib.Core.List.{List, _++_}
+use mathlib.Core.List.{List, [], _++_}
 use lib.ListN.{length}
 use Rattle.bits.specs.Map.{lists}
 use Rattle.script.specs.Memory.{Next, Prev, root, Write, latest}
-use Rattle.sound.specs.Checks.{Entry, Beside}
+use Rattle.sound.specs.Checks.{Entry, Beside, nobody}
 use Rattle.sound.specs.Links.{unlinkWrites}
 use Rattle.sound.specs.Plans.{roomOf, leaves, afterwards, bothLeave}
 use Rattle.slices.specs.Decode.{grains}
-use Rattle.free_list.specs.Lent.{link, Leads, link-keep, leads-keep}
+use Rattle.free_list.specs.Lent.{link, Leads, Long, Room, link-keep, leads-keep}
 use Rattle.free_list.specs.Written.{Written, written-none, written-then, written-as, written-length}
 use Rattle.neighbours.specs.declared.Beside.{Beside as BesideAnswer}
 use Rattle.neighbours.specs.declared.Neighbour.{Neighbour}
-use Rattle.neighbours.specs.Shown.{someone, listed}
+use Rattle.neighbours.specs.Shown.{someone, Listed}
 use Rattle.neighbours.specs.After.{relinked, headed, leaving, latest-append, next-after, prev-after, head-after}
 
 -- ---- what is asked for writing: a list that is there, links that lead
@@ -31,6 +31,10 @@ Known a e = (e .grains ≡ 0 → ⊥) → Linked a e
 
 pub known-keep : (a b : List ℕ) (f : Neighbour) → length b ≡ length a → Known a f → Known b f
 known-keep a b f e k n = record { list = k n .list; next = leads-keep a b (f .next) e (k n .next); prev = leads-keep a b (f .prev) e (k n .prev) }
+
+-- so it can be unlinked, where there is one
+pub can-leave : (a l : List ℕ) (e : Neighbour) → Known a e → (e .grains ≡ 0 → ⊥) → Long l → Room (e .list) l × Leads a (e .next) × Leads a (e .prev)
+can-leave a l e k n o = (record { known = k n .list; room = o }, k n .next, k n .prev)
 
 -- ---- one after the other
 
@@ -59,13 +63,13 @@ leavingOf a e = leaving a (e .grains) (e .list) (e .next) (e .prev)
 abbrev pub bothLeaving : List ℕ → Neighbour → Neighbour → List Write
 bothLeaving a e f = leavingOf a e ++ leavingOf a f
 
+-- nobody has none
+pub leaving-nobody : (a : List ℕ) (e : Neighbour) → e .grains ≡ 0 → leavingOf a e ≡ []
+leaving-nobody a e n = ap (λ (g : ℕ). leaving a g (e .list) (e .next) (e .prev)) n
+
 -- nobody leaves
 pub left-nobody : (a l : List ℕ) (e : Neighbour) → e .grains ≡ 0 → Written a l (leavingOf a e) a l
-left-nobody a l e n = go (e .grains) n
-  where
-    go : (g : ℕ) → g ≡ 0 → Written a l (leaving a g (e .list) (e .next) (e .prev)) a l
-    go zero n = written-none a l
-    go (suc g) n = absurd (omega arith)
+left-nobody a l e n = written-as {p = []} (leaving-nobody a e n) (written-none a l)
 
 -- one does
 pub left-list : (a l b m : List ℕ) (e : Neighbour) → (e .grains ≡ 0 → ⊥) → Written a l (unlinkWrites (e .list) (link a (e .next)) (link a (e .prev))) b m → Written a l (leavingOf a e) b m
@@ -98,28 +102,34 @@ both-left e f {a} {b = b} i j = written-then {p = leavingOf a e} {q = leavingOf 
 abbrev pub seenOf : List ℕ → BesideAnswer → Beside
 seenOf a r = someone (r .grains) (record { next = link a (r .next); prev = link a (r .prev) })
 
+-- and of one that leaves
+abbrev pub behindOf : List ℕ → Neighbour → Beside
+behindOf a e = someone (e .grains) (record { next = link a (e .next); prev = link a (e .prev) })
+
+-- nobody is nobody, whatever else is said of it
+pub behind-nobody : (a : List ℕ) (e : Neighbour) → e .grains ≡ 0 → behindOf a e ≡ nobody
+behind-nobody a e n = ap (λ (g : ℕ). someone g (record { next = link a (e .next); prev = link a (e .prev) })) n
+
 pub room-is : (g : ℕ) (e : Entry) → roomOf (someone g e) ≡ g
 room-is zero e = refl
 room-is (suc g) e = refl
 
 module _ (a : List ℕ) (k x p : ℕ) where
-  pub leaves-is : (g : ℕ) → k ≡ listed g → leaves (someone g (record { next = link a x; prev = link a p })) ≡ leaving a g k x p
-  unfolding listed
+  pub leaves-is : (g : ℕ) → Listed g k → leaves (someone g (record { next = link a x; prev = link a p })) ≡ leaving a g k x p
   leaves-is zero e = refl
-  leaves-is (suc g) e = ap (λ (i : ℕ). unlinkWrites i (link a x) (link a p)) (sym e)
+  leaves-is (suc g) e = ap (λ (i : ℕ). unlinkWrites i (link a x) (link a p)) (sym (e (λ n. omega arith)))
 
   -- the second, after the writes w
-  after-is : (w : List Write) (z g : ℕ) (o : Entry) → k ≡ listed g → link a x ≡ latest w Next z (o .next) → link a p ≡ latest w Prev z (o .prev)
+  after-is : (w : List Write) (z g : ℕ) (o : Entry) → Listed g k → link a x ≡ latest w Next z (o .next) → link a p ≡ latest w Prev z (o .prev)
       → leaves (afterwards w z (someone g o)) ≡ leaving a g k x p
-  unfolding listed
   after-is w z zero o e f h = refl
   after-is w z (suc g) o e f h =
-      ap (λ (i : ℕ). unlinkWrites i (latest w Next z (o .next)) (latest w Prev z (o .prev))) (sym e)
+      ap (λ (i : ℕ). unlinkWrites i (latest w Next z (o .next)) (latest w Prev z (o .prev))) (sym (e (λ n. omega arith)))
       ∙ ap (λ (y : ℕ). unlinkWrites k y (latest w Prev z (o .prev))) (sym f) ∙ ap (unlinkWrites k (link a x)) (sym h)
 
 -- both leave, the second from a list in which the first is no more
-pub both-leave : (a : List ℕ) (e : Neighbour) (f : BesideAnswer) (z : ℕ) → length a < 18446744073709551616 → z < grains 8 a → e .list ≡ listed (e .grains) → f .list ≡ listed (f .grains)
-    → bothLeave (someone (e .grains) (record { next = link a (e .next); prev = link a (e .prev) })) z (seenOf a f) ≡ bothLeaving a e (secondOf e z f)
+pub both-leave : (a : List ℕ) (e : Neighbour) (f : BesideAnswer) (z : ℕ) → length a < 18446744073709551616 → z < grains 8 a → Listed (e .grains) (e .list) → Listed (f .grains) (f .list)
+    → bothLeave (behindOf a e) z (seenOf a f) ≡ bothLeaving a e (secondOf e z f)
 both-leave a e f z s h p q =
     let w = leavingOf a e in
     let g = secondOf e z f in

@@ -57,24 +57,14 @@ alone b = record { ok = b; grains = 0; list = 0; next = noLink; prev = noLink }
 abbrev pub shownBeside : List ℕ → BesideAnswer → Result Beside
 shownBeside a r = answer (r .ok) (someone (r .grains) (record { next = link a (r .next); prev = link a (r .prev) }))
 
--- the list of a block of g grains, if it is there
-unfoldable pub listed : ℕ → ℕ
-listed zero = 0
-listed (suc g) = listOf (suc g)
-
-listed-nobody : 0 ≡ listed 0
-unfolding listed
-listed-nobody = refl
-
-pub listed-some : (g k : ℕ) → 1 ≤ g → k ≡ listOf g → k ≡ listed g
-unfolding listed
-listed-some zero k h e = absurd (omega arith)
-listed-some (suc g) k h e = e
+-- k is the list of a block of g grains, if it is there
+abbrev pub Listed : ℕ → ℕ → Type 0
+Listed g k = (g ≡ 0 → ⊥) → k ≡ listOf g
 
 -- the answer is that of the script S, whatever the other slices hold, and the block's list is that of its size
 pub record SeenBeside (a l : List ℕ) (S : Script Beside) (r : BesideAnswer) : Type 0 where
   pub answer : (v t : List ℕ) → shownBeside a r ≡ run (held a l v t) S
-  pub list : r .list ≡ listed (r .grains)
+  pub list : Listed (r .grains) (r .list)
 
 -- on what is behind, at y, and on what is before x
 abbrev pub SeenBehind : List ℕ → List ℕ → ℕ → BesideAnswer → Type 0
@@ -85,7 +75,7 @@ SeenBefore a l x r = SeenBeside a l (seeBefore (grains 8 a) classes x) r
 
 -- nobody was seen
 pub seen-nobody : (a l : List ℕ) (S : Script Beside) (b : Bool) (r : BesideAnswer) → r ≡ alone b → ((v t : List ℕ) → shownBeside a (alone b) ≡ run (held a l v t) S) → SeenBeside a l S r
-seen-nobody a l S b r e h = subst (SeenBeside a l S) (sym e) (record { answer = h; list = listed-nobody })
+seen-nobody a l S b r e h = subst (SeenBeside a l S) (sym e) (record { answer = h; list = λ n. absurd (n refl) })
 
 -- a block has grains
 pub someone-is : (t : ℕ) (e : Entry) → 1 ≤ t → someone t e ≡ somebody t e

@@ -4,7 +4,7 @@ use Prim.Native.Nat.{ℕ, zero, suc, _+_, _*_, _≤_, _<_}
 use native.Mathlib.Omega.{arith}
 use mathlib.Core.Path.{_≡_, refl, ap, sym, _∙_, subst}
 use mathlib.Core.Bool.{Bool, true}
-use mathlib.Core.List.{List}
+use mathlib.Core.List.{List, []}
 use mathlib.Core.Logic.{inl, inr, ⊎-elim}
 use lib.ListN.{length}
 use Rattle.choice.specs.Choice.{ifEq, eq-case}
@@ -20,7 +20,7 @@ use Rattle.slices.specs.Slices.{memory-size}
 use Rattle.free_list.specs.Lent.{lent, held, classes, noLink, link, Leads}
 use Rattle.free_list.specs.Answers.{answer, unless}
 use Rattle.free_list.specs.Leading.{leads-valid}
-use Rattle.neighbours.specs.Shown.{shownOwner, someone, listed, SeenBehind, SeenBefore}
+use Rattle.neighbours.specs.Shown.{shownOwner, someone, Listed, SeenBehind, SeenBefore}
 use Rattle.neighbours.specs.declared.Owner.{Owner as OwnerAnswer}
 use Rattle.neighbours.specs.declared.Beside.{Beside as BesideAnswer}
 use Rattle.neighbours.specs.declared.Neighbour.{Neighbour}
@@ -44,11 +44,10 @@ module _ (a l v t : List ℕ) where
 
 module _ (a l v t : List ℕ) (s : length a < 18446744073709551616) where
   -- a list that is there, and links that lead
-  sighted : (y g k x p : ℕ) → k ≡ listed (suc g) → listOf (suc g) < lists → EntryChecked (grains 8 a) (held a l v t) (listOf (suc g)) y (record { next = link a x; prev = link a p })
+  sighted : (y g k x p : ℕ) → Listed (suc g) k → listOf (suc g) < lists → EntryChecked (grains 8 a) (held a l v t) (listOf (suc g)) y (record { next = link a x; prev = link a p })
       → Linked a (record { grains = suc g; list = k; next = x; prev = p })
-  unfolding listed
   sighted y g k x p e h c = record {
-    list = omega arith;
+    list = omega (arith, e (λ n. omega arith));
     next = leads-valid a x s (⊎-elim (λ q. inl q) (λ q. inr (q .0)) (c .back));
     prev = leads-valid a p s (⊎-elim (λ q. inl (q .0)) (λ q. inr (q .2)) (c .head));
   }
@@ -57,7 +56,7 @@ module _ (a l v t : List ℕ) (s : length a < 18446744073709551616) where
   pub behind-within : (y : ℕ) (r : BesideAnswer) → y < grains 8 a → SeenBehind a l y r → r .ok ≡ true → (y + r .grains < grains 8 a) × Known a (firstOf r)
   behind-within y r i h o = go (r .ok) (r .grains) (r .list) (r .next) (r .prev) (h .answer v t) (h .list) o
     where
-      go : (b : Bool) (g k x p : ℕ) → answer b (someone g (record { next = link a x; prev = link a p })) ≡ run (held a l v t) (seeBehind (grains 8 a) classes y) → k ≡ listed g → b ≡ true
+      go : (b : Bool) (g k x p : ℕ) → answer b (someone g (record { next = link a x; prev = link a p })) ≡ run (held a l v t) (seeBehind (grains 8 a) classes y) → Listed g k → b ≡ true
           → (y + g < grains 8 a) × Known a (record { grains = g; list = k; next = x; prev = p })
       go b zero k x p h d o = (omega arith, λ n. absurd (n refl))
       go b (suc g) k x p h d o =
@@ -70,7 +69,7 @@ module _ (a l v t : List ℕ) (s : length a < 18446744073709551616) where
   pub before-within : (x : ℕ) (r : BesideAnswer) → SeenBefore a l x r → r .ok ≡ true → (r .grains ≤ x) × Known a (firstOf r)
   before-within x r h o = go (r .ok) (r .grains) (r .list) (r .next) (r .prev) (h .answer v t) (h .list) o
     where
-      go : (b : Bool) (g k y p : ℕ) → answer b (someone g (record { next = link a y; prev = link a p })) ≡ run (held a l v t) (seeBefore (grains 8 a) classes x) → k ≡ listed g → b ≡ true
+      go : (b : Bool) (g k y p : ℕ) → answer b (someone g (record { next = link a y; prev = link a p })) ≡ run (held a l v t) (seeBefore (grains 8 a) classes x) → Listed g k → b ≡ true
           → (g ≤ x) × Known a (record { grains = g; list = k; next = y; prev = p })
       go b zero k y p h d o = (omega arith, λ n. absurd (n refl))
       go b (suc g) k y p h d o =
@@ -91,6 +90,25 @@ headed-leads a zero k x p j h f i = i
 headed-leads a (suc g) k x p j h f i = eq-case (Leads a) p noLink (ifEq k j x h) h (λ _. eq-case (Leads a) k j x h (λ _. f (λ e. omega arith)) (λ _. i)) (λ _. i)
 
 -- ---- neighbours that can leave
+
+-- one behind the block of s grains at x
+pub record Behind (a : List ℕ) (x s : ℕ) (e : Neighbour) : Type 0 where
+  pub inside : x + (s + e .grains) < grains 8 a
+  pub list : Listed (e .grains) (e .list)
+  pub known : Known a e
+
+-- as it was seen there
+pub behind-seen : (a l : List ℕ) (x s : ℕ) (e : BesideAnswer) → SeenBehind a l (x + s) e → length a < 18446744073709551616 → x + s < grains 8 a → e .ok ≡ true → Behind a x s (firstOf e)
+behind-seen a l x s e z t h c =
+    let w = behind-within a l [] [] t (x + s) e h z c in
+    record { inside = omega (arith, w .0); list = z .list; known = w .1 }
+
+-- nobody can always leave
+pub known-nobody : (a : List ℕ) (e : Neighbour) → e .grains ≡ 0 → Known a e
+known-nobody a e n m = absurd (m n)
+
+pub behind-none : (a : List ℕ) (x s : ℕ) (e : Neighbour) → x + s < grains 8 a → e .grains ≡ 0 → Behind a x s e
+behind-none a x s e h n = record { inside = omega arith; list = λ m. absurd (m n); known = known-nobody a e n }
 
 -- the second, after the first
 pub known-second : (a : List ℕ) (e : Neighbour) (f : BesideAnswer) (z : ℕ) → Known a e → Known a (firstOf f) → Known a (secondOf e z f)

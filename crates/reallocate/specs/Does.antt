@@ -11,7 +11,7 @@ use Rattle.slices.specs.Slices.{Slices}
 use Rattle.carry.specs.Carry.{carried}
 use Rattle.free_list.specs.Lent.{lent, held, classes}
 use Rattle.neighbours.specs.declared.Neighbour.{Neighbour}
-use Rattle.stretch.specs.Shown.{behindOf}
+use Rattle.neighbours.specs.Leaving.{behindOf}
 use Rattle.reallocate.specs.declared.Resized.{Resized}
 
 -- what a call that answers o, for the payload at q, says and leaves

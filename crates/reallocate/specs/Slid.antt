@@ -16,8 +16,7 @@ use Rattle.tables.specs.Length.{LongEnough}
 use Rattle.free_list.specs.Lent.{lent, held, classes, Long}
 use Rattle.free_list.specs.Written.{Written, WrittenLive, written-length, written-room}
 use Rattle.neighbours.specs.declared.Neighbour.{Neighbour}
-use Rattle.neighbours.specs.Leaving.{Known, bothLeaving}
-use Rattle.stretch.specs.Shown.{behindOf}
+use Rattle.neighbours.specs.Leaving.{Known, bothLeaving, behindOf}
 use Rattle.slide.specs.declared.Plan.{Plan as SlidePlan}
 use Rattle.slide.specs.Shown.{Able, Makeable, Slides, downWrites, slid, down-keep, makeable-keep, slide-refused, slide-down, slide-elsewhere}
 use Rattle.reallocate.specs.Left.{halves-inside}

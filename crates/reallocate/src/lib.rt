@@ -8,7 +8,7 @@ ghost use Rattle.free_list.specs.Lent.{Long};
 ghost use Rattle.tables.specs.Length.{LongEnough};
 ghost use Rattle.allocate.specs.Demand.{Demand};
 ghost use Rattle.undo.specs.Saved.{Inside};
-ghost use Rattle.stretch.specs.Shown.{Behind};
+ghost use Rattle.neighbours.specs.Within.{Behind};
 ghost use Rattle.reallocate.specs.Does.{resized, GoesElsewhere, Moves, Resizes};
 ghost use Rattle.reallocate.specs.Left.{Leaves};
 ghost use Rattle.reallocate.specs.Slid.{Ready, Slid};

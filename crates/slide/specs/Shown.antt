@@ -14,9 +14,9 @@ use Rattle.slices.specs.Decode.{grains, grains-keep}
 use Rattle.free_list.specs.Lent.{held, classes, link, Leads, link-keep, leads-keep}
 use Rattle.free_list.specs.Answers.{answer}
 use Rattle.neighbours.specs.declared.Neighbour.{Neighbour}
-use Rattle.neighbours.specs.Leaving.{Known, bothLeaving}
+use Rattle.neighbours.specs.Leaving.{Known, bothLeaving, behindOf}
 use Rattle.carve.specs.Made.{leftBehind}
-use Rattle.stretch.specs.Shown.{behindOf, orRefused}
+use Rattle.stretch.specs.Shown.{orRefused}
 use Rattle.slide.specs.declared.Plan.{Plan as PlanAnswer}
 use Rattle.slide.specs.declared.Rest.{Rest}
 

@@ -23,11 +23,11 @@ use Rattle.free_list.specs.Leading.{head-leads}
 use Rattle.neighbours.specs.declared.Neighbour.{Neighbour}
 use Rattle.neighbours.specs.declared.Beside.{Beside as BesideAnswer}
 use Rattle.neighbours.specs.Shown.{SeenBefore}
-use Rattle.neighbours.specs.Leaving.{Known, bothLeaving, headedBoth, secondOf, seenOf, room-is, both-leave, head-both}
-use Rattle.neighbours.specs.Within.{both-leads}
+use Rattle.neighbours.specs.Leaving.{Known, bothLeaving, headedBoth, secondOf, behindOf, seenOf, room-is, both-leave, head-both}
+use Rattle.neighbours.specs.Within.{Behind, both-leads}
 use Rattle.carve.specs.Made.{leftBehind}
 use Rattle.carve.specs.Left.{left-nothing, left-unlisted, left-headless, left-listed}
-use Rattle.stretch.specs.Shown.{behindOf, orRefused, Behind}
+use Rattle.stretch.specs.Shown.{orRefused}
 use Rattle.slide.specs.declared.Plan.{Plan as PlanAnswer}
 use Rattle.slide.specs.declared.Rest.{Rest}
 use Rattle.slide.specs.Shown.{Farther, turnWrites, slid, byKind, goesOn, shown, SeenRest, Downs, Slides}

@@ -10,7 +10,7 @@ ghost use Rattle.slices.specs.Decode.{grains};
 ghost use Rattle.free_list.specs.Lent.{Long};
 ghost use Rattle.free_list.specs.Written.{Written, WrittenLive};
 ghost use Rattle.neighbours.specs.Leaving.{Known, bothLeaving};
-ghost use Rattle.stretch.specs.Shown.{Behind};
+ghost use Rattle.neighbours.specs.Within.{Behind};
 ghost use Rattle.slide.specs.Shown.{Farther, downWrites, Makeable, SeenRest, Downs, Slides};
 use bits::LISTS;
 use header::NONE;

@@ -8,13 +8,12 @@ use Rattle.bits.specs.Map.{lists}
 use Rattle.definition.specs.Calls.{keeps}
 use Rattle.script.specs.Memory.{Memory, Write}
 use Rattle.script.specs.Script.{Script, Result, ok, no, run}
-use Rattle.sound.specs.Checks.{Beside}
 use Rattle.sound.specs.Plans.{Plan, moveScript}
 use Rattle.slices.specs.Decode.{grains}
 use Rattle.free_list.specs.Lent.{held, classes, noLink, link, Leads}
 use Rattle.neighbours.specs.declared.Neighbour.{Neighbour}
-use Rattle.neighbours.specs.Shown.{someone, listed}
-use Rattle.neighbours.specs.Leaving.{Known, leavingOf}
+use Rattle.neighbours.specs.Leaving.{Known, leavingOf, behindOf}
+use Rattle.neighbours.specs.Within.{Behind}
 use Rattle.carve.specs.Made.{leftBehind}
 use Rattle.stretch.specs.declared.Plan.{Plan as PlanAnswer}
 
@@ -23,10 +22,6 @@ use Rattle.stretch.specs.declared.Plan.{Plan as PlanAnswer}
 -- one that leaves nothing over
 abbrev pub bare : ℕ → Neighbour → PlanAnswer
 bare k e = record { refusal = 0; kind = k; behind = e; list = 0; head = noLink }
-
--- what stands behind the block
-abbrev pub behindOf : List ℕ → Neighbour → Beside
-behindOf a e = someone (e .grains) (record { next = link a (e .next); prev = link a (e .prev) })
 
 -- it leaves its list; of the block of s grains at x and its own grains, m are kept
 abbrev pub stretchWrites : List ℕ → ℕ → ℕ → ℕ → PlanAnswer → List Write
@@ -54,13 +49,6 @@ moving a c q p u x s r = run c (moveScript (grains 8 a) classes q p u x s (behin
 
 abbrev pub shown : List ℕ → Memory → ℕ → ℕ → ℕ → ℕ → ℕ → ℕ → PlanAnswer → Result Plan
 shown a c q p u x s m r = orRefused (r .refusal) (byKind (r .kind) q (stretchWrites a x s m r) (moving a c q p u x s r))
-
--- ---- what was seen behind the block of s grains at x
-
-pub record Behind (a : List ℕ) (x s : ℕ) (e : Neighbour) : Type 0 where
-  pub inside : x + (s + e .grains) < grains 8 a
-  pub list : e .list ≡ listed (e .grains)
-  pub known : Known a e
 
 -- ---- what is asked for writing: room for both, a list that is there, links that lead
 

@@ -23,11 +23,11 @@ use Rattle.neighbours.specs.declared.Neighbour.{Neighbour}
 use Rattle.neighbours.specs.declared.Beside.{Beside as BesideAnswer}
 use Rattle.neighbours.specs.Shown.{SeenBehind}
 use Rattle.neighbours.specs.After.{headed, head-after}
-use Rattle.neighbours.specs.Leaving.{firstOf, leavingOf, seenOf, room-is, leaves-is}
-use Rattle.neighbours.specs.Within.{behind-within, headed-leads}
+use Rattle.neighbours.specs.Leaving.{firstOf, leavingOf, behindOf, seenOf, room-is, leaves-is}
+use Rattle.neighbours.specs.Within.{Behind, headed-leads}
 use Rattle.carve.specs.Left.{left-nothing, left-unlisted, left-headless, left-listed}
 use Rattle.stretch.specs.declared.Plan.{Plan as PlanAnswer}
-use Rattle.stretch.specs.Shown.{bare, behindOf, stays, Behind, Planned, planned-damaged}
+use Rattle.stretch.specs.Shown.{bare, stays, Planned, planned-damaged}
 
 -- ---- what stands behind was seen
 
@@ -158,9 +158,3 @@ module _ (a l : List ℕ) (x s m : ℕ) where
       able = f .able;
       short = f .short;
     }
-
--- what was seen behind the block stands in the arena and can leave
-pub plan-behind : (a l : List ℕ) (x s : ℕ) (e : BesideAnswer) → SeenBehind a l (x + s) e → length a < 18446744073709551616 → x + s < grains 8 a → e .ok ≡ true → Behind a x s (firstOf e)
-plan-behind a l x s e z t h c =
-    let w = behind-within a l [] [] t (x + s) e h z c in
-    record { inside = omega (arith, w .0); list = z .list; known = w .1 }

@@ -1,39 +1,12 @@
--- `deallocate::apply_back`: the writes of the calls, one after the other; none of them changes a length.
-use mathlib.Core.List.{_++_}
-use mathlib.Core.Path.{_∙_}
-use Rattle.sound.specs.Links.{pushWrites}
-use Rattle.slices.specs.Decode.{grains-keep}
-use Rattle.free_list.specs.Lent.{link, leads-keep}
-use Rattle.free_list.specs.Written.{written-length, written-room}
-use Rattle.neighbours.specs.Leaving.{bothLeaving}
-use Rattle.deallocate.specs.Written.{relisted, returned, at-start}
+-- `deallocate::apply_back`: the neighbours that are there leave, and the joined block is put; none of it changes a length.
+use Rattle.neighbours.specs.Leaving.{can-leave, left-nobody, left-list, both-left}
+use Rattle.deallocate.specs.Written.{able-after, joined-after}
 use borrow.Author.Needs.{needs}
 use Rattle.deallocate.proofs.apply_back.Statement.{statement}
 use Rattle.deallocate.proofs.apply_back.Tie as tie
 
-leave-both-requires : tie.Need-leave-both-requires
-leave-both-requires c κs = search needs
-
-push-requires : tie.Need-push-requires
-push-requires c κs =
-    let f = c .before .before .before .before .before .before in
-    let s = f .before .before .before .before .before .before in
-    let w = bothLeaving (s .args .a .now) (s .args .p .behind) (s .args .p .before) in
-    let e = written-length {w = w} (f .leave-both .ensures) in (
-      rw (grains-keep 8 (s .args .a .now) _ e) (at-start (s .args .a .now) (s .args .p) (s .pre .0)),
-      written-room {w = w} (s .args .p .list) (f .leave-both .ensures) (record { known = s .pre .0 .list; room = s .pre .1 }),
-      leads-keep (s .args .a .now) _ (s .args .p .head) e (s .pre .0 .head),
-    )
-
-put-free-requires : tie.Need-put-free-requires
-put-free-requires c κs =
-    let p = c .before .before .before .before .before in
-    let f = p .before .before .before .before .before .before .before in
-    let s = f .before .before .before .before .before .before in
-    rw (grains-keep 8 (s .args .a .now) _ (written-length (p .push .ensures) ∙ written-length (f .leave-both .ensures))) (s .pre .0 .inside)
-
-clear-table-bit-requires : tie.Need-clear-table-bit-requires
-clear-table-bit-requires c κs = search needs
+put-joined-requires : tie.Need-put-joined-requires
+put-joined-requires c κs = search needs
 
 same-length : tie.Need-same-length
 same-length c = search needs
@@ -46,24 +19,145 @@ same-length-3 c = search needs
 
 returns : tie.Need-returns
 returns c =
-    let l = c .before .before in
-    let u = l .before .before .before .before in
-    let p = u .before .before .before .before .before .before in
-    let f = p .before .before .before .before .before .before .before in
-    let s = f .before .before .before .before .before .before .args in
-    let a = s .a .now in
-    returned (s .q) (s .p .at) (s .p .grains) (bothLeaving a (s .p .behind) (s .p .before) ++ pushWrites (s .p .list) (s .p .at) (link a (s .p .head)))
-    (relisted (s .p .behind) (s .p .before) (s .p .list) (s .p .at) (s .p .head) (f .leave-both .ensures) (p .push .ensures)) (u .put-free .ensures) (l .clear-table-bit .ensures)
+    let j = c .before .before .before .before .before .before in
+    let f = j .before .before .before .before in
+    let e = f .before .before in
+    let s = e .before .before .before .before .before .args in
+    joined-after (s .q) (s .p)
+    (both-left (s .p .behind) (s .p .before) (left-nobody (s .a .now) (s .lists .now) (s .p .behind) (e .if1 .taken)) (left-nobody (s .a .now) (s .lists .now) (s .p .before) (f .if2 .taken)))
+    (j .put-joined .ensures)
+
+unlink-requires : tie.Need-unlink-requires
+unlink-requires c κs =
+    let s = c .before .before .before .before .before .before .before .before .before in
+    can-leave (s .args .a .now) (s .args .lists .now) (s .args .p .before) (s .pre .0 .before) (c .before .before .if2 .left) (s .pre .1)
+
+put-joined-requires-2 : tie.Need-put-joined-requires-2
+put-joined-requires-2 c κs =
+    let u = c .before .before .before .before .before .before .before in
+    let s = u .before .before .before .before .before .before .before .before .before .before in
+    let k = able-after (s .args .p) (u .unlink .ensures) (s .pre .0) (s .pre .1) in
+    (k .0, k .1, s .pre .2)
+
+same-length-4 : tie.Need-same-length-4
+same-length-4 c = search needs
+
+same-length-5 : tie.Need-same-length-5
+same-length-5 c = search needs
+
+same-length-6 : tie.Need-same-length-6
+same-length-6 c = search needs
+
+returns-2 : tie.Need-returns-2
+returns-2 c =
+    let j = c .before .before .before .before .before .before in
+    let u = j .before .before .before .before .before .before .before .before in
+    let f = u .before .before .before in
+    let e = f .before .before in
+    let s = e .before .before .before .before .before .args in
+    joined-after (s .q) (s .p)
+    (both-left (s .p .behind) (s .p .before) (left-nobody (s .a .now) (s .lists .now) (s .p .behind) (e .if1 .taken)) (left-list (s .a .now) (s .lists .now) _ _ (s .p .before) (f .if2 .left) (u .unlink .ensures)))
+    (j .put-joined2 .ensures)
+
+unlink-requires-2 : tie.Need-unlink-requires-2
+unlink-requires-2 c κs =
+    let s = c .before .before .before .before .before .before .before .before .before in
+    can-leave (s .args .a .now) (s .args .lists .now) (s .args .p .behind) (s .pre .0 .behind) (c .before .before .before .before .if1 .left) (s .pre .1)
+
+put-joined-requires-3 : tie.Need-put-joined-requires-3
+put-joined-requires-3 c κs =
+    let u = c .before .before .before .before .before .before .before in
+    let s = u .before .before .before .before .before .before .before .before .before .before in
+    let k = able-after (s .args .p) (u .unlink2 .ensures) (s .pre .0) (s .pre .1) in
+    (k .0, k .1, s .pre .2)
+
+same-length-7 : tie.Need-same-length-7
+same-length-7 c = search needs
+
+same-length-8 : tie.Need-same-length-8
+same-length-8 c = search needs
+
+same-length-9 : tie.Need-same-length-9
+same-length-9 c = search needs
+
+returns-3 : tie.Need-returns-3
+returns-3 c =
+    let j = c .before .before .before .before .before .before in
+    let u = j .before .before .before .before .before .before .before .before in
+    let f = u .before .before .before in
+    let e = f .before .before in
+    let s = e .before .before .before .before .before .args in
+    joined-after (s .q) (s .p)
+    (both-left (s .p .behind) (s .p .before) (left-list (s .a .now) (s .lists .now) _ _ (s .p .behind) (e .if1 .left) (u .unlink2 .ensures)) (left-nobody _ _ (s .p .before) (f .if3 .taken)))
+    (j .put-joined3 .ensures)
+
+unlink-requires-3 : tie.Need-unlink-requires-3
+unlink-requires-3 c κs =
+    let s = c .before .before .before .before .before .before .before .before .before in
+    can-leave (s .args .a .now) (s .args .lists .now) (s .args .p .behind) (s .pre .0 .behind) (c .before .before .before .before .if1 .left) (s .pre .1)
+
+unlink-requires-4 : tie.Need-unlink-requires-4
+unlink-requires-4 c κs =
+    let u = c .before .before .before .before .before .before in
+    let s = u .before .before .before .before .before .before .before .before .before .before in
+    let k = able-after (s .args .p) (u .unlink3 .ensures) (s .pre .0) (s .pre .1) in
+    can-leave _ _ (s .args .p .before) (k .0 .before) (u .before .before .before .if3 .left) (k .1)
+
+put-joined-requires-4 : tie.Need-put-joined-requires-4
+put-joined-requires-4 c κs =
+    let w = c .before .before .before .before .before .before .before in
+    let u = w .before .before .before .before .before .before .before in
+    let s = u .before .before .before .before .before .before .before .before .before .before in
+    let k = able-after (s .args .p) (u .unlink3 .ensures) (s .pre .0) (s .pre .1) in
+    let o = able-after (s .args .p) (w .unlink4 .ensures) (k .0) (k .1) in
+    (o .0, o .1, s .pre .2)
+
+same-length-10 : tie.Need-same-length-10
+same-length-10 c = search needs
+
+same-length-11 : tie.Need-same-length-11
+same-length-11 c = search needs
+
+same-length-12 : tie.Need-same-length-12
+same-length-12 c = search needs
+
+returns-4 : tie.Need-returns-4
+returns-4 c =
+    let j = c .before .before .before .before .before .before in
+    let w = j .before .before .before .before .before .before .before .before in
+    let u = w .before .before .before .before .before .before .before in
+    let f = u .before .before .before in
+    let e = f .before .before in
+    let s = e .before .before .before .before .before .args in
+    joined-after (s .q) (s .p)
+    (both-left (s .p .behind) (s .p .before) (left-list (s .a .now) (s .lists .now) _ _ (s .p .behind) (e .if1 .left) (u .unlink3 .ensures)) (left-list _ _ _ _ (s .p .before) (f .if3 .left) (w .unlink4 .ensures)))
+    (j .put-joined4 .ensures)
 
 pub apply-back-spec : {M : Type 1} → statement M
 apply-back-spec =
     tie.close
     (tie.spec
-    leave-both-requires
-    push-requires
-    put-free-requires
-    clear-table-bit-requires
+    put-joined-requires
     same-length
     same-length-2
     same-length-3
-    returns)
+    returns
+    unlink-requires
+    put-joined-requires-2
+    same-length-4
+    same-length-5
+    same-length-6
+    returns-2
+    unlink-requires-2
+    put-joined-requires-3
+    same-length-7
+    same-length-8
+    same-length-9
+    returns-3
+    unlink-requires-3
+    unlink-requires-4
+    put-joined-requires-4
+    same-length-10
+    same-length-11
+    same-length-12
+    returns-4)

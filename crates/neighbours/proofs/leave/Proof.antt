@@ -1,5 +1,5 @@
 -- `neighbours::leave`: nobody leaves, or one is unlinked.
-use Rattle.neighbours.specs.Leaving.{left-nobody, left-list}
+use Rattle.neighbours.specs.Leaving.{can-leave, left-nobody, left-list}
 use borrow.Author.Needs.{needs}
 use Rattle.neighbours.proofs.leave.Statement.{statement}
 use Rattle.neighbours.proofs.leave.Tie as tie
@@ -13,8 +13,7 @@ unlink-requires : tie.Need-unlink-requires
 unlink-requires c κs =
     let i = c .before .before in
     let s = i .before .before .before .before in
-    let k = s .pre .0 (i .if1 .left) in
-    (record { known = k .list; room = s .pre .1 }, k .next, k .prev)
+    can-leave (s .args .a .now) (s .args .lists .now) (s .args .e) (s .pre .0) (i .if1 .left) (s .pre .1)
 
 same-length : tie.Need-same-length
 same-length c = search needs

@@ -1,7 +1,7 @@
 -- `neighbours::see_listed`: the list of the size is known, or there is none, and the list says the rest.
 use native.Mathlib.Omega.{arith}
 use Rattle.header.specs.Turned.{grains-few}
-use Rattle.neighbours.specs.Shown.{seen-nobody, listed-some}
+use Rattle.neighbours.specs.Shown.{seen-nobody}
 use Rattle.neighbours.specs.Beside.{listed-none, listed-entry}
 use borrow.Author.Needs.{needs}
 use Rattle.neighbours.proofs.see_listed.Statement.{statement}
@@ -31,7 +31,7 @@ returns-2 c =
     let s = k .before .before .before in record {
       answer = λ v u. listed-entry (s .args .a .now) (s .args .lists .now) v u (s .args .t) (s .args .y) (k .map-floor .result) (k .map-floor .ensures) (c .before .if1 .left)
           (s .pre .2) (c .see-entry .result) (c .see-entry .ensures v u);
-      list = listed-some (s .args .t) (k .map-floor .result) (s .pre .2) (k .map-floor .ensures);
+      list = λ _. k .map-floor .ensures;
     }
 
 pub see-listed-spec : {M : Type 1} → statement M

@@ -2,7 +2,8 @@
 use native.Mathlib.Omega.{arith}
 use borrow.Author.Tests.{not-true, not-false}
 use Rattle.header.specs.Turned.{grains-few}
-use Rattle.stretch.specs.Steps.{plan-same, plan-damaged, plan-fit, plan-behind}
+use Rattle.neighbours.specs.Within.{behind-seen}
+use Rattle.stretch.specs.Steps.{plan-same, plan-damaged, plan-fit}
 use borrow.Author.Needs.{needs}
 use Rattle.stretch.proofs.plan_stretch.Statement.{statement}
 use Rattle.stretch.proofs.plan_stretch.Tie as tie
@@ -40,7 +41,7 @@ fit-requires : tie.Need-fit-requires
 fit-requires c κs =
     let e = c .before .before in
     let s = e .before .before .before .before in
-    (plan-behind (s .args .a .now) (s .args .lists .now) (s .args .x) (s .args .s) (e .see-behind .result) (e .see-behind .ensures) (s .good .0 .0) (s .pre .0) (not-false _ (c .if2 .left)), s .pre .1)
+    (behind-seen (s .args .a .now) (s .args .lists .now) (s .args .x) (s .args .s) (e .see-behind .result) (e .see-behind .ensures) (s .good .0 .0) (s .pre .0) (not-false _ (c .if2 .left)), s .pre .1)
 
 returns-3 : tie.Need-returns-3
 returns-3 c =
