@@ -17,7 +17,8 @@ use Rattle.header.specs.Turned.{turned}
 use Rattle.header.specs.Told.{usedOf}
 use Rattle.free_list.specs.Lent.{lent, held, link, link-grain}
 use Rattle.neighbours.specs.Size.{used-some}
-use Rattle.neighbours.specs.Shown.{before-read, link-from, shownGrain}
+use Rattle.neighbours.specs.Shown.{before-read, link-from, shownOwner, shownGrain}
+use Rattle.neighbours.specs.declared.Owner.{Owner as OwnerAnswer}
 
 -- ---- the grain of the block
 
@@ -74,12 +75,19 @@ module _ (a l v t : List ℕ) (q : ℕ) (i : q < 2 * grains 8 a) where
 
 -- ---- the block
 
--- its size and its end, when its grain is known
-abbrev pub ownerOf : ℕ → ℕ → ℕ → Script Owner
-ownerOf q x s = do
-  mustLe q (2 * (x + s))
+-- its end, when its grain and its size are known
+abbrev pub endAt : ℕ → ℕ → Script Owner
+endAt x s = do
   mustLead Before (x + s) x
   done (record { at = x; grains = s })
+
+-- the answer on it is the script's
+abbrev pub SeenEnd : List ℕ → ℕ → ℕ → OwnerAnswer → Type 0
+SeenEnd a x s r = (l v t : List ℕ) → shownOwner r ≡ run (held a l v t) (endAt x s)
+
+-- after the payload is seen to start before it
+abbrev pub ownerOf : ℕ → ℕ → ℕ → Script Owner
+ownerOf q x s = mustLe q (2 * (x + s)) >> endAt x s
 
 -- from its grain on
 abbrev pub ownerAt : ℕ → ℕ → Script Owner
@@ -149,21 +157,21 @@ module _ (a l v t : List ℕ) (q x s : ℕ) where
   pub owner-behind : 2 * (x + s) < q → run (held a l v t) (ownerOf q x s) ≡ no 5
   owner-behind p = let m = held a l v t in halts m (mustLe q (2 * (x + s))) _ (halts-le m 5 q (2 * (x + s)) p)
 
-  module _ (i : x + s < grains 8 a) (p : q ≤ 2 * (x + s)) where
-    -- the grain behind it is read
-    owner-end : run (held a l v t) (ownerOf q x s) ≡ run (held a l v t) (mustEq (linkAt 8 a Before 0 (x + s)) x >> done (record { at = x; grains = s }))
-    owner-end =
-        let m = held a l v t in
-        goes m (mustLe q (2 * (x + s))) _ (gives-le m 5 q (2 * (x + s)) p) ∙ reads m Before (x + s) _ (before-read a l v t (x + s) i)
+  -- it isn't: the rest hangs on the end
+  pub owner-end : q ≤ 2 * (x + s) → run (held a l v t) (ownerOf q x s) ≡ run (held a l v t) (endAt x s)
+  owner-end p = let m = held a l v t in goes m (mustLe q (2 * (x + s))) _ (gives-le m 5 q (2 * (x + s)) p)
 
-    -- what is behind it doesn't lead back
-    pub owner-torn : (linkAt 8 a Before 0 (x + s) ≡ x → ⊥) → run (held a l v t) (ownerOf q x s) ≡ no 5
-    owner-torn ne =
-        let m = held a l v t in
-        owner-end ∙ halts m (mustEq (linkAt 8 a Before 0 (x + s)) x) _ (halts-eq m 5 _ x ne)
+module _ (a l v t : List ℕ) (x s : ℕ) (i : x + s < grains 8 a) where
+  -- the grain behind it is read
+  end-read : run (held a l v t) (endAt x s) ≡ run (held a l v t) (mustEq (linkAt 8 a Before 0 (x + s)) x >> done (record { at = x; grains = s }))
+  end-read = reads (held a l v t) Before (x + s) _ (before-read a l v t (x + s) i)
 
-    -- all agrees
-    pub owner-found : linkAt 8 a Before 0 (x + s) ≡ x → run (held a l v t) (ownerOf q x s) ≡ ok (record { at = x; grains = s })
-    owner-found e =
-        let m = held a l v t in
-        owner-end ∙ goes m (mustEq (linkAt 8 a Before 0 (x + s)) x) _ (gives-eq m 5 _ x e) ∙ gives-done m (record { at = x; grains = s })
+  -- what is behind it doesn't lead back
+  pub end-torn : (linkAt 8 a Before 0 (x + s) ≡ x → ⊥) → no 5 ≡ run (held a l v t) (endAt x s)
+  end-torn ne = let m = held a l v t in sym (end-read ∙ halts m (mustEq (linkAt 8 a Before 0 (x + s)) x) _ (halts-eq m 5 _ x ne))
+
+  -- all agrees
+  pub end-found : linkAt 8 a Before 0 (x + s) ≡ x → ok (record { at = x; grains = s }) ≡ run (held a l v t) (endAt x s)
+  end-found e =
+      let m = held a l v t in
+      sym (end-read ∙ goes m (mustEq (linkAt 8 a Before 0 (x + s)) x) _ (gives-eq m 5 _ x e) ∙ gives-done m (record { at = x; grains = s }))

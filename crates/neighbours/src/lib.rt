@@ -1,12 +1,13 @@
 // The block of a live payload, and the blocks beside a used one: everything that must hang together before a call writes.
 // Each check is a script's, carried out on the lent slices.
 ghost use mathlib.Core.Path.{_≡_};
-ghost use Prim.Native.Nat.{_*_, _≤_, _<_};
+ghost use Prim.Native.Nat.{_+_, _*_, _%_, _≤_, _<_};
 ghost use lib.ListN.{length};
 ghost use Rattle.slices.specs.Decode.{grains};
 ghost use Rattle.free_list.specs.Lent.{Long};
 ghost use Rattle.free_list.specs.Written.{Written};
 ghost use Rattle.neighbours.specs.Shown.{refusal, alone, SeenOwner, SeenBlock, SeenBehind, SeenBefore};
+ghost use Rattle.neighbours.specs.Owner.{SeenEnd};
 ghost use Rattle.neighbours.specs.Beside.{SeenListed};
 ghost use Rattle.neighbours.specs.After.{relinked, headed};
 ghost use Rattle.neighbours.specs.Leaving.{Known, leavingOf, bothLeaving, headedBoth, secondOf};
@@ -31,13 +32,21 @@ pub struct Owner {
     pub grains: usize,
 }
 
-// The used block whose live payload is at q, counted in half grains.
+// The used block whose live payload is at q, counted in half grains: half a grain before it, or as the word before it says.
 pub fn see_owner(a: &[u8], live: &[u64], q: usize) -> Owner
     requires { ⌜ (q < 64 * length (now live)) × (q < 2 * grains 8 (now a)) ⌝ }
     ensures { λ r. ⌜ SeenOwner (now (a .entry)) (now (live .entry)) q r ⌝ }
 {
     if bits::table_bit(live, q) != 1 {
         return refused(NOT_LIVE);
+    }
+    if q % 2 == 1 {
+        let x = q / 2;
+        let s = header::used_at(a, x);
+        if s == 0 {
+            return refused(DAMAGED);
+        }
+        return see_end(a, x, s);
     }
     let x = block_of(a, q);
     if header::count(a) <= x {
@@ -50,6 +59,14 @@ pub fn see_owner(a: &[u8], live: &[u64], q: usize) -> Owner
     if 2 * (x + s) < q {
         return refused(DAMAGED);
     }
+    see_end(a, x, s)
+}
+
+// The used block of s grains at x, where what stands behind it leads back to it.
+fn see_end(a: &[u8], x: usize, s: usize) -> Owner
+    requires { ⌜ x + s < grains 8 (now a) ⌝ }
+    ensures { λ r. ⌜ SeenEnd (now (a .entry)) x s r ⌝ }
+{
     if !header::leads(a, x + s, BEFORE, x) {
         return refused(DAMAGED);
     }
@@ -60,16 +77,13 @@ pub fn see_owner(a: &[u8], live: &[u64], q: usize) -> Owner
     }
 }
 
-// The grain of the block whose payload is at q, half a grain before it or as the word before it says; the arena's end where
-// that word leads to no grain before q.
+// The grain of the block whose payload is at q, at a grain, as the word before it says; the arena's end where that word leads
+// to no grain before q.
 fn block_of(a: &[u8], q: usize) -> usize
-    requires { ⌜ q < 2 * grains 8 (now a) ⌝ }
+    requires { ⌜ (q < 2 * grains 8 (now a)) × (q % 2 ≡ 1 → ⊥) ⌝ }
     ensures { λ r. ⌜ SeenBlock (now (a .entry)) q r ⌝ }
 {
     let g = q / 2;
-    if q % 2 == 1 {
-        return g;
-    }
     if g == 0 {
         return header::count(a);
     }

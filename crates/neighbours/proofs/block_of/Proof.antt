@@ -1,23 +1,17 @@
 -- `neighbours::block_of`: each return is one step of the script.
-use Rattle.neighbours.specs.Owner.{block-middle, block-first, block-past, block-before}
+use Rattle.neighbours.specs.Owner.{block-first, block-past, block-before}
 use mathlib.Core.Path.{refl}
 use borrow.Author.Needs.{needs}
 use Rattle.neighbours.proofs.block_of.Statement.{statement}
 use Rattle.neighbours.proofs.block_of.Tie as tie
 
-returns : tie.Need-returns
-returns c l v t =
-    let s = c .before .before in
-    block-middle (s .args .a .now) l v t (s .args .q) (s .pre) (c .if1 .taken)
-
 count-requires : tie.Need-count-requires
 count-requires c κs = search needs
 
-returns-2 : tie.Need-returns-2
-returns-2 c l v t =
-    let o = c .before .before in
-    let s = o .before .before in
-    block-first (s .args .a .now) l v t (s .args .q) (s .pre) (o .if1 .left) (c .count .result) (c .count .ensures) (c .before .if2 .taken)
+returns : tie.Need-returns
+returns c l v t =
+    let s = c .before .before .before in
+    block-first (s .args .a .now) l v t (s .args .q) (s .pre .0) (s .pre .1) (c .count .result) (c .count .ensures) (c .before .if1 .taken)
 
 sub-field : tie.Need-sub-field
 sub-field c = search needs
@@ -31,32 +25,29 @@ grain-of-requires c κs = search needs
 count-requires-2 : tie.Need-count-requires-2
 count-requires-2 c κs = search needs
 
+returns-2 : tie.Need-returns-2
+returns-2 c l v t =
+    let g = c .before .before in
+    let s = g .before .before .before .before in
+    block-past (s .args .a .now) l v t (s .args .q) (s .pre .0) (s .pre .1) (c .count2 .result) (c .count2 .ensures) (s .good .0 .0)
+    (g .before .field .result) (g .grain-of .result) (g .before .field .ensures) (g .grain-of .ensures) (c .before .if2 .taken)
+
 returns-3 : tie.Need-returns-3
 returns-3 c l v t =
-    let g = c .before .before in
-    let o = g .before .before .before in
-    let s = o .before .before in
-    block-past (s .args .a .now) l v t (s .args .q) (s .pre) (o .if1 .left) (c .count2 .result) (c .count2 .ensures) (s .good .0 .0)
-    (g .before .field .result) (g .grain-of .result) (g .before .field .ensures) (g .grain-of .ensures) (c .before .if3 .taken)
-
-returns-4 : tie.Need-returns-4
-returns-4 c l v t =
     let g = c .before in
-    let o = g .before .before .before in
-    let s = o .before .before in
-    block-before (s .args .a .now) l v t (s .args .q) (s .pre) (o .if1 .left) _ refl (s .good .0 .0)
-    (g .before .field .result) (g .grain-of .result) (g .before .field .ensures) (g .grain-of .ensures) (c .if3 .left)
+    let s = g .before .before .before .before in
+    block-before (s .args .a .now) l v t (s .args .q) (s .pre .0) (s .pre .1) _ refl (s .good .0 .0)
+    (g .before .field .result) (g .grain-of .result) (g .before .field .ensures) (g .grain-of .ensures) (c .if2 .left)
 
 pub block-of-spec : {M : Type 1} → statement M
 block-of-spec =
     tie.close
     (tie.spec
-    returns
     count-requires
-    returns-2
+    returns
     sub-field
     field-requires
     grain-of-requires
     count-requires-2
-    returns-3
-    returns-4)
+    returns-2
+    returns-3)
