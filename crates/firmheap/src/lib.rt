@@ -7,6 +7,7 @@ ghost use Rattle.bits.specs.Map.{mapWords, lists as listCount};
 ghost use Rattle.tables.specs.Length.{liveLength};
 ghost use Rattle.firmheap.specs.Replies.{taken, done, given, laid};
 ghost use Rattle.firmheap.specs.Contracts.{Allocates, Deallocates, Reallocates, Initialises, Inserts, Appends};
+ghost use Rattle.firmheap.specs.Take.{Takable, TakesSized};
 ghost use Rattle.calls.specs.Bytes.{following};
 ghost use Rattle.firmheap.specs.Give.{Lays};
 
@@ -83,11 +84,33 @@ pub fn allocate(
     if !tables::long_enough(arena.len(), lists.len(), live.len()) {
         return Taken::Refused(TOO_SHORT);
     }
-    let asked = request::request_of(size, align);
+    if !request::is_alignment(align) {
+        return Taken::Refused(OUT_OF_RANGE);
+    }
+    if align <= HALF {
+        return take_sized(arena, lists, live, size, 1);
+    }
+    take_sized(arena, lists, live, size, align / HALF)
+}
+
+// A payload of `size` bytes at a multiple of so many half grains. It is called with 1 written out for the common case, so that
+// the compiler makes a copy in which the payload's place in its block is a constant.
+fn take_sized(
+    arena: &mut [u8],
+    lists: &mut [u64],
+    live: &mut [u64],
+    size: usize,
+    multiple: usize,
+) -> Taken
+    requires { ⌜ Takable (now arena) (now lists) (now live) multiple ⌝ }
+    ensures { λ r. ⌜ TakesSized (now (arena .entry)) (now (lists .entry)) (now (live .entry)) size multiple (taken r)
+        (now (arena .exit)) (now (lists .exit)) (now (live .exit)) ⌝ }
+{
+    let asked = request::sized(size, multiple);
     if !asked.ok {
         return Taken::Refused(OUT_OF_RANGE);
     }
-    let p = allocate::plan_take(arena, lists, asked.length, asked.multiple);
+    let p = allocate::plan_take(arena, lists, asked.length, multiple);
     if p.refusal != 0 {
         return Taken::Refused(p.refusal);
     }

@@ -1,5 +1,6 @@
 -- Requests.
 pub mod Alignment
+pub mod Sized
 pub mod Asked
 pub mod Range
 pub mod Placed
