@@ -1,9 +1,9 @@
 -- Bytes moved inside one list (`moved`): source and target may overlap, and what arrives is the source as it was.
 use Prim.Native.Nat.{ℕ, _+_, _≤_, _<_}
 use native.Mathlib.Omega.{arith}
-use mathlib.Core.Path.{_≡_, refl}
+use mathlib.Core.Path.{_≡_, refl, subst}
 use mathlib.Core.List.{List}
-use mathlib.Core.Logic.{inl, inr}
+use mathlib.Core.Logic.{_⊎_, inl, inr, ⊎-elim}
 use lib.ListN.{length, getD}
 use Rattle.word.specs.Number.{Apart}
 use Rattle.copy.specs.Copied.{copied, Copied, copied-is, copied-only, copied-same, copied-then, copied-before}
@@ -47,13 +47,27 @@ moved-nowhere a from to n e = record { arrived = λ i h f. rw e; kept = λ j h. 
 
 -- ---- a move in two steps: where the second one reads, the first one has not written
 
+-- the first of n bytes may go first: downwards, or to where none of them is read
+abbrev pub Ascends : ℕ → ℕ → ℕ → Type 0
+Ascends from to n = (to ≤ from) ⊎ (from + n ≤ to)
+
+-- so may those of a part of them
+pub ascends-part : (from to n i : ℕ) → i ≤ n → Ascends from to n → Ascends from to i
+ascends-part from to n i h = ⊎-elim (λ (e : to ≤ from). inl e) (λ (e : from + n ≤ to). inr (omega arith))
+
+-- the first i of them were written apart from each byte behind them
+pub ascends-apart : (from to n i j : ℕ) → i ≤ j → j < n → Ascends from to n → Apart to i (from + j) 1
+ascends-apart from to n i j h g = ⊎-elim (λ (e : to ≤ from). inl (omega arith)) (λ (e : from + n ≤ to). inr (omega arith))
+
 module _ {a b c : List ℕ} {from to from' to' i k n : ℕ} where
-  -- downwards, some bytes and then those behind them
-  pub then-behind : to ≤ from → from + i ≡ from' → to + i ≡ to' → i + k ≡ n → Moved a from to i b → Moved b from' to' k c → Moved a from to n c
+  -- some bytes and then those behind them
+  pub then-behind : Ascends from to n → from + i ≡ from' → to + i ≡ to' → i + k ≡ n → Moved a from to i b → Moved b from' to' k c → Moved a from to n c
   then-behind h f t e p q = rw (← e) (copied-then p (rw (f, t) (copied-same still q)))
     where
       still : (j : ℕ) → j < k → getD b (from' + j) 0 ≡ getD a (from' + j) 0
-      still j g = p .kept (from' + j) (inl (omega arith))
+      still j g =
+          let x : from + (i + j) ≡ from' + j = omega arith in
+          p .kept (from' + j) (subst (λ (z : ℕ). Apart to i z 1) x (ascends-apart from to n i (i + j) (omega arith) (omega arith) h))
 
   -- upwards, some bytes and then those before them
   pub then-before : from ≤ to → from + k ≡ from' → to + k ≡ to' → k + i ≡ n → Moved a from' to' i b → Moved b from to k c → Moved a from to n c

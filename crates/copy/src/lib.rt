@@ -1,12 +1,12 @@
-// Payloads moved inside one slice, in half grains of 16 bytes. Source and target may overlap: downwards the first ones go
-// first, upwards the last ones, so that each byte is read before it is written over.
+// Payloads moved inside one slice, in half grains of 16 bytes. Source and target may overlap: the first ones go first, but
+// upwards onto the source itself the last ones, so that each byte is read before it is written over.
 //
 // They go by grains of 32 bytes, each of which is read whole before it is written: the compiler makes of it two loads and
 // two stores of 16 bytes, on x86-64 and aarch64. What is left is nothing or one half grain.
 ghost use mathlib.Core.Path.{_≡_};
 ghost use Prim.Native.Nat.{_+_, _*_, _≤_, _<_};
 ghost use lib.ListN.{length};
-ghost use Rattle.copy.specs.Moved.{moved, Moved};
+ghost use Rattle.copy.specs.Moved.{moved, Moved, Ascends};
 
 const GRAIN: usize = 32;
 
@@ -18,29 +18,33 @@ pub fn move_halves(a: &mut [u8], from: usize, to: usize, n: usize)
     ensures { λ r. ⌜ now (a .exit) ≡ moved (now (a .entry)) (16 * from) (16 * to) (16 * n) ⌝ }
 {
     if to < from {
-        move_down(a, HALF * from, HALF * to, n);
+        move_ascending(a, HALF * from, HALF * to, n);
+        return;
+    }
+    if from + n <= to {
+        move_ascending(a, HALF * from, HALF * to, n);
         return;
     }
     if from < to {
-        move_up(a, HALF * from, HALF * to, n);
+        move_descending(a, HALF * from, HALF * to, n);
         return;
     }
 }
 
-// ---- downwards, the first ones first: n half grains, from byte `from` to byte `to`
+// ---- the first ones first, downwards or to where none is read: n half grains, from byte `from` to byte `to`
 
-fn move_down(a: &mut [u8], from: usize, to: usize, n: usize)
-    requires { ⌜ (to ≤ from) × (from + 16 * n ≤ length (now a)) ⌝ }
+fn move_ascending(a: &mut [u8], from: usize, to: usize, n: usize)
+    requires { ⌜ Ascends from to (16 * n) × (from + 16 * n ≤ length (now a)) × (to + 16 * n ≤ length (now a)) ⌝ }
     ensures { λ r. ⌜ Moved (now (a .entry)) from to (16 * n) (now (a .exit)) ⌝ }
 {
     let grains = n / 2;
     let end = GRAIN * grains;
-    grains_down(a, from, to, grains);
+    grains_ascending(a, from, to, grains);
     last_half(a, from + end, to + end, n % 2);
 }
 
-fn grains_down(a: &mut [u8], from: usize, to: usize, n: usize)
-    requires { ⌜ (to ≤ from) × (from + 32 * n ≤ length (now a)) ⌝ }
+fn grains_ascending(a: &mut [u8], from: usize, to: usize, n: usize)
+    requires { ⌜ Ascends from to (32 * n) × (from + 32 * n ≤ length (now a)) × (to + 32 * n ≤ length (now a)) ⌝ }
     ensures { λ r. ⌜ Moved (now (a .entry)) from to (32 * n) (now (a .exit)) ⌝ }
 {
     let mut i = 0;
@@ -50,19 +54,19 @@ fn grains_down(a: &mut [u8], from: usize, to: usize, n: usize)
     }
 }
 
-// ---- upwards, the last ones first
+// ---- the last ones first, upwards
 
-fn move_up(a: &mut [u8], from: usize, to: usize, n: usize)
+fn move_descending(a: &mut [u8], from: usize, to: usize, n: usize)
     requires { ⌜ (from ≤ to) × (to + 16 * n ≤ length (now a)) ⌝ }
     ensures { λ r. ⌜ Moved (now (a .entry)) from to (16 * n) (now (a .exit)) ⌝ }
 {
     let grains = n / 2;
     let end = GRAIN * grains;
     last_half(a, from + end, to + end, n % 2);
-    grains_up(a, from, to, grains);
+    grains_descending(a, from, to, grains);
 }
 
-fn grains_up(a: &mut [u8], from: usize, to: usize, n: usize)
+fn grains_descending(a: &mut [u8], from: usize, to: usize, n: usize)
     requires { ⌜ (from ≤ to) × (to + 32 * n ≤ length (now a)) ⌝ }
     ensures { λ r. ⌜ Moved (now (a .entry)) from to (32 * n) (now (a .exit)) ⌝ }
 {

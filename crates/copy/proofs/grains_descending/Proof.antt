@@ -1,21 +1,24 @@
--- `copy::grains_down` meets its contract. The loop's invariant: the first i grains have moved, and nothing else
--- has. Those behind them are as they were, so what is read next is the source's. Assumes nothing.
+-- `copy::grains_descending` meets its contract. The loop's invariant: all but the first `left` grains have moved, and
+-- nothing else has. Those before them are as they were, so what is read next is the source's. Assumes nothing.
 use borrow.Author.Needs.{needs}
-use Prim.Native.Nat.{_*_, _-_, _≤_}
+use Prim.Native.Nat.{_+_, _*_, _-_, _≤_}
 use native.Mathlib.Omega.{arith}
-use mathlib.Core.Path.{_≡_, refl}
-use Rattle.copy.specs.Moved.{Moved, moved-none, then-behind}
-use Rattle.copy.proofs.grains_down.Statement.{statement}
-use Rattle.copy.proofs.grains_down.Tie as tie
+use mathlib.Core.Path.{_≡_}
+use Rattle.copy.specs.Moved.{Moved, moved-none, then-before}
+use Rattle.copy.proofs.grains_descending.Statement.{statement}
+use Rattle.copy.proofs.grains_descending.Tie as tie
 
 abbrev Inv-loop : tie.InvT-loop
-Inv-loop a₀ from to n i₀ a i = (i ≤ n) × Moved a₀ from to (32 * i) a
+Inv-loop a₀ from to n left₀ a left = (left ≤ n) × Moved a₀ (from + 32 * left) (to + 32 * left) (32 * (n - left)) a
 
 abbrev μ-loop : tie.MeasureT-loop
-μ-loop a₀ from to n i₀ a i = n - i
+μ-loop a₀ from to n left₀ a left = left
 
 loop-holds : tie.Need-loop-holds Inv-loop μ-loop
 loop-holds c = (omega arith, moved-none _ _ _ _ (omega arith))
+
+sub-left : tie.Need-sub-left Inv-loop μ-loop
+sub-left c = search needs
 
 mul-move-grain : tie.Need-mul-move-grain Inv-loop μ-loop
 mul-move-grain c = search needs
@@ -32,9 +35,6 @@ add-move-grain-2 c = search needs
 move-grain-requires : tie.Need-move-grain-requires Inv-loop μ-loop
 move-grain-requires c κs = search needs
 
-add-i : tie.Need-add-i Inv-loop μ-loop
-add-i c = search needs
-
 loop-less : tie.Need-loop-less Inv-loop μ-loop
 loop-less c = search needs
 
@@ -42,7 +42,7 @@ loop-again : tie.Need-loop-again Inv-loop μ-loop
 loop-again c =
     let m = c .before .before in
     let l = m .before .before .before in
-    (omega arith, then-behind (omega arith) refl refl (omega arith) (l .loop .inv .1) (m .move-grain .ensures))
+    (omega arith, then-before (omega arith) (omega arith) (omega arith) (omega arith) (l .loop .inv .1) (m .move-grain .ensures))
 
 same-length : tie.Need-same-length Inv-loop μ-loop
 same-length c = search needs
@@ -50,22 +50,25 @@ same-length c = search needs
 returns : tie.Need-returns Inv-loop μ-loop
 returns c =
     let l = c .before in
-    let e : l .loop .i ≡ l .before .before .args .n = omega arith in
-    rw (← e) (l .loop .inv .1)
+    let s = l .before .before .args in
+    let e : s .from + 32 * l .loop .left ≡ s .from = omega arith in
+    let f : s .to + 32 * l .loop .left ≡ s .to = omega arith in
+    let g : 32 * (s .n - l .loop .left) ≡ 32 * s .n = omega arith in
+    rw (e, f, g) at (l .loop .inv .1)
 
-pub grains-down-spec : {M : Type 1} → statement M
-grains-down-spec =
+pub grains-descending-spec : {M : Type 1} → statement M
+grains-descending-spec =
     tie.close
     (tie.spec
     Inv-loop
     μ-loop
     loop-holds
+    sub-left
     mul-move-grain
     add-move-grain
     mul-move-grain-2
     add-move-grain-2
     move-grain-requires
-    add-i
     loop-less
     loop-again
     same-length
