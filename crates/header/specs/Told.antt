@@ -3,7 +3,7 @@
 use Prim.Native.Nat.{ℕ, _+_, _-_, _*_, _/_, _%_, _≤_, _<_}
 use native.Mathlib.Omega.{arith}
 use mathlib.Core.Path.{_≡_, refl, ap, sym, _∙_}
-use mathlib.Core.Bool.{Bool, true, false, not}
+use mathlib.Core.Bool.{Bool, true, false}
 use lib.Dec.{eqb}
 use lib.ListN.{length}
 use borrow.Author.Tests.{eq-eqb, ne-eqb}
@@ -48,10 +48,6 @@ module _ (n g v : ℕ) where
   unfolding sizeOf
   size-of s e l p h = eq-no v 35 _ _ l ∙ rw e (eq-no s 0 _ _ (λ q. omega arith) ∙ le-yes (g + s + 1) n _ _ h)
 
-  less-than-one : (v ≡ 35 → ⊥) → v / 32 ≡ 0 → sizeOf 32 n g v ≡ wrongSize
-  unfolding sizeOf
-  less-than-one l e = eq-no v 35 _ _ l ∙ eq-yes (v / 32) 0 _ _ e
-
   -- a free block
   pub told-free : g < n → n < 576460752303423488 → (v ≡ 0 → ⊥) → turned v < n - g → wordOf (sizeOf 32 n g v) ≡ isFree (turned v)
   told-free i f z h =
@@ -72,30 +68,26 @@ module _ (n g v : ℕ) where
       (λ _. eq-case (λ (x : ℕ). freeOf (wordOf x) ≡ 0) (v % 32) 1 _ _ (λ _. rw (word-used (v / 32) (omega (arith, z))) refl) (λ _. rw wrong-is refl)))
       (λ _. rw wrong-is refl)
 
-  -- nothing at all
-  pub told-zero : v ≡ 0 → wordOf (sizeOf 32 n g v) ≡ isBad
+  -- less than a grain
+  pub told-none : v < 32 → wordOf (sizeOf 32 n g v) ≡ isBad
   unfolding sizeOf
-  told-zero e =
+  told-none h =
       let a : v / 32 ≡ 0 = omega arith in
       ap wordOf (eq-no v 35 _ _ (λ q. omega arith) ∙ eq-yes (v / 32) 0 _ _ a) ∙ wrong-is
 
   -- a used block
-  pub told-used : g < n → n < 576460752303423488 → (v ≡ 0 → ⊥) → turned (v - 1) < n - g → usedOf (wordOf (sizeOf 32 n g v)) ≡ turned (v - 1)
+  pub told-used : g < n → n < 576460752303423488 → 1 < v → turned (v - 1) < n - g → usedOf (wordOf (sizeOf 32 n g v)) ≡ turned (v - 1)
   told-used i f z h =
       let t = turned-in n (v - 1) f (omega arith) in
       let e : v / 32 ≡ turned (v - 1) = omega (arith, t) in
       let r : v % 32 ≡ 1 = omega (arith, t) in
       let l : v ≡ 35 → ⊥ = λ q. omega arith in
-      ⊎-elim
-      (λ (p : turned (v - 1) ≡ 0). ap (λ (x : ℕ). usedOf (wordOf x)) (less-than-one l (e ∙ p)) ∙ rw wrong-is (sym p))
-      (λ (p : turned (v - 1) ≡ 0 → ⊥).
-      let s : 1 ≤ turned (v - 1) = omega (arith, p) in
+      let s : 1 ≤ turned (v - 1) = omega (arith, t) in
       ap (λ (x : ℕ). usedOf (wordOf x)) (size-of (turned (v - 1)) e l s (omega arith) ∙ eq-no (v % 32) 0 _ _ (λ q. omega arith) ∙ eq-yes (v % 32) 1 _ _ r)
-      ∙ ap usedOf (word-used (turned (v - 1)) s))
-      (same? (turned (v - 1)) 0)
+      ∙ ap usedOf (word-used (turned (v - 1)) s)
 
   -- no used block
-  pub not-used : g < n → (v ≡ 0 → ⊥) → n - g ≤ turned (v - 1) → usedOf (wordOf (sizeOf 32 n g v)) ≡ 0
+  pub not-used : g < n → 1 < v → n - g ≤ turned (v - 1) → usedOf (wordOf (sizeOf 32 n g v)) ≡ 0
   unfolding sizeOf
   not-used i nz h =
       eq-case (λ (x : ℕ). usedOf (wordOf x) ≡ 0) v 35 _ _ (λ _. rw word-last refl) λ _.
@@ -158,36 +150,33 @@ not-last n g v l =
     bad : wordOf wrongSize ≡ isLast → ⊥
     bad q = let h : isBad ≡ isLast = sym wrong-is ∙ q in let c : _≡_ {A = ℕ} 0 1 = cc in omega arith
 
--- a block that is no sentinel is busy exactly where it is used
-module _ (n g v : ℕ) (l : v ≡ 35 → ⊥) where
-  pub busy-not : usedOf (wordOf (sizeOf 32 n g v)) ≡ 0 → busyOf (wordOf (sizeOf 32 n g v)) ≡ false
-  busy-not e = go (wordOf (sizeOf 32 n g v)) refl e
-    where
-      go : (w : Word) → wordOf (sizeOf 32 n g v) ≡ w → usedOf w ≡ 0 → busyOf w ≡ false
-      go (isFree s) q h = refl
-      go (isUsed s) q h = absurd (omega (arith, decoded-used 32 n g v s q))
-      go isLast q h = absurd (not-last n g v l q)
-      go isBad q h = refl
+-- what is not used and no sentinel is not busy
+busy-not : (n g v : ℕ) → (v ≡ 35 → ⊥) → usedOf (wordOf (sizeOf 32 n g v)) ≡ 0 → busyOf (wordOf (sizeOf 32 n g v)) ≡ false
+busy-not n g v l e = go (wordOf (sizeOf 32 n g v)) refl e
+  where
+    go : (w : Word) → wordOf (sizeOf 32 n g v) ≡ w → usedOf w ≡ 0 → busyOf w ≡ false
+    go (isFree s) q h = refl
+    go (isUsed s) q h = absurd (omega (arith, decoded-used 32 n g v s q))
+    go isLast q h = absurd (not-last n g v l q)
+    go isBad q h = refl
 
-  pub busy-yes : (usedOf (wordOf (sizeOf 32 n g v)) ≡ 0 → ⊥) → busyOf (wordOf (sizeOf 32 n g v)) ≡ true
-  busy-yes e = go (wordOf (sizeOf 32 n g v)) e
-    where
-      go : (w : Word) → (usedOf w ≡ 0 → ⊥) → busyOf w ≡ true
-      go (isFree s) h = absurd (h refl)
-      go (isUsed s) h = refl
-      go isLast h = refl
-      go isBad h = absurd (h refl)
+-- as the code asks it: a block of some grains in use is busy
+pub busy-used : (w : Word) (u : ℕ) → u ≡ usedOf w → (u ≡ 0 → ⊥) → true ≡ busyOf w
+busy-used (isFree s) u e h = absurd (h e)
+busy-used (isUsed s) u e h = refl
+busy-used isLast u e h = refl
+busy-used isBad u e h = absurd (h e)
 
--- as the code asks it, of a block of u grains in use
-module _ (a : List ℕ) (g v : ℕ) (i : g < grains 8 a) (e : v ≡ wordAt 8 a (4 * g + 0)) (l : v ≡ 35 → ⊥) (u : ℕ) (q : u ≡ usedOf (wordOf (sizeAt 8 a g))) where
-  used-word : usedOf (wordOf (sizeOf 32 (grains 8 a) g v)) ≡ u
-  used-word = sym (q ∙ ap (λ (x : ℕ). usedOf (wordOf x)) (size-word a g v i e))
+-- and where there is none, the sentinel alone
+module _ (a : List ℕ) (g v : ℕ) (i : g < grains 8 a) (e : v ≡ wordAt 8 a (4 * g + 0)) (u : ℕ) (q : u ≡ usedOf (wordOf (sizeAt 8 a g))) (z : u ≡ 0) where
+  unused-word : usedOf (wordOf (sizeOf 32 (grains 8 a) g v)) ≡ 0
+  unused-word = sym (q ∙ ap (λ (x : ℕ). usedOf (wordOf x)) (size-word a g v i e)) ∙ z
 
-  pub busy-says : not (eqb u 0) ≡ busyOf (wordOf (sizeAt 8 a g))
-  busy-says = ⊎-elim
-      (λ (z : u ≡ 0). ap not (eq-eqb u 0 z) ∙ says a g v i e busyOf (busy-not (grains 8 a) g v l (used-word ∙ z)))
-      (λ (z : u ≡ 0 → ⊥). ap not (ne-eqb u 0 z) ∙ says a g v i e busyOf (busy-yes (grains 8 a) g v l (λ h. z (sym used-word ∙ h))))
-      (same? u 0)
+  pub busy-last : eqb v 35 ≡ busyOf (wordOf (sizeAt 8 a g))
+  busy-last = ⊎-elim
+      (λ (h : v ≡ 35). eq-eqb v 35 h ∙ says a g v i e busyOf (ap busyOf (last-told (grains 8 a) g v h)))
+      (λ (h : v ≡ 35 → ⊥). ne-eqb v 35 h ∙ says a g v i e busyOf (busy-not (grains 8 a) g v h unused-word))
+      (same? v 35)
 
 -- ---- the links of an arena
 

@@ -91,7 +91,7 @@ pub fn used_at(a: &[u8], g: usize) -> usize
     ensures { λ r. ⌜ r ≡ usedOf (wordOf (sizeAt 8 (now (a .entry)) g)) ⌝ }
 {
     let word = field(a, g, SIZE);
-    if word == 0 {
+    if word <= 1 {
         return 0;
     }
     let used = grain_of(word - 1);
@@ -106,10 +106,10 @@ pub fn is_busy(a: &[u8], g: usize) -> bool
     requires { ⌜ g < grains 8 (now a) ⌝ }
     ensures { λ r. ⌜ r ≡ busyOf (wordOf (sizeAt 8 (now (a .entry)) g)) ⌝ }
 {
-    if field(a, g, SIZE) == SENTINEL {
+    if used_at(a, g) != 0 {
         return true;
     }
-    used_at(a, g) != 0
+    field(a, g, SIZE) == SENTINEL
 }
 
 // Whether link f of grain g leads to grain y: one comparison of words.

@@ -1,7 +1,8 @@
 -- `header::free_at`: each return is one test of the size word.
+use native.Mathlib.Omega.{arith}
 use mathlib.Core.Path.{ap, sym, _∙_}
 use Rattle.header.specs.Turned.{grains-few}
-use Rattle.header.specs.Told.{freeOf, told-free, not-free, told-zero, says}
+use Rattle.header.specs.Told.{freeOf, told-free, not-free, told-none, says}
 use borrow.Author.Needs.{needs}
 use Rattle.header.proofs.free_at.Statement.{statement}
 use Rattle.header.proofs.free_at.Tie as tie
@@ -10,7 +11,10 @@ field-requires : tie.Need-field-requires
 field-requires c κs = search needs
 
 returns : tie.Need-returns
-returns c = says (c .before .before .before .args .a .now) (c .before .before .before .args .g) (c .before .field .result) (c .before .before .before .pre) (c .before .field .ensures) freeOf (ap freeOf (told-zero _ _ _ (c .if1 .taken)))
+returns c =
+    let s = c .before .before .before in
+    let v = c .before .field .result in
+    says (s .args .a .now) (s .args .g) v (s .pre) (c .before .field .ensures) freeOf (ap freeOf (told-none _ _ v (omega (arith, c .if1 .taken))))
 
 grain-of-requires : tie.Need-grain-of-requires
 grain-of-requires c κs = search needs

@@ -1,7 +1,8 @@
 -- `header::used_at`: each return is one test of the size word.
+use native.Mathlib.Omega.{arith}
 use mathlib.Core.Path.{ap, sym, _∙_}
 use Rattle.header.specs.Turned.{grains-few}
-use Rattle.header.specs.Told.{usedOf, told-used, not-used, told-zero, says}
+use Rattle.header.specs.Told.{usedOf, told-used, not-used, told-none, says}
 use borrow.Author.Needs.{needs}
 use Rattle.header.proofs.used_at.Statement.{statement}
 use Rattle.header.proofs.used_at.Tie as tie
@@ -12,7 +13,8 @@ field-requires c κs = search needs
 returns : tie.Need-returns
 returns c =
     let s = c .before .before .before in
-    says (s .args .a .now) (s .args .g) (c .before .field .result) (s .pre) (c .before .field .ensures) usedOf (ap usedOf (told-zero _ _ _ (c .if1 .taken)))
+    let v = c .before .field .result in
+    says (s .args .a .now) (s .args .g) v (s .pre) (c .before .field .ensures) usedOf (ap usedOf (told-none _ _ v (omega (arith, c .if1 .taken))))
 
 sub-grain-of : tie.Need-sub-grain-of
 sub-grain-of c = search needs
