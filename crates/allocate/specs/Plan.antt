@@ -189,6 +189,10 @@ module _ (a l : List ℕ) (p u c k : ℕ) (startIs : c ≡ startOf (wanted p u))
         let j = w .inside b in
         start-fits (wanted p u) (o .grains) i (j .1) (omega (arith, j .2, startIs, listIs, first-from (mapBit l) (lists - c) c))
 
+-- what is wanted, as the code counts it
+pub wanted-counted : (p u : ℕ) → 0 < u → (p + u - 1) / 2 + 1 ≡ wanted p u
+wanted-counted p u h = omega arith
+
 -- so much is wanted that no list has it
 pub plan-large : (a l : List ℕ) (p u w : ℕ) (r : Plan) → Refuses 1 r → w ≡ wanted p u → 4096 ≤ w → Plans a l p u r
 plan-large a l p u w r e i h =

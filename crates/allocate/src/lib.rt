@@ -58,12 +58,13 @@ struct Rest {
 
 // ---- the plan
 
-// A payload of some half grains at a multiple of others.
+// A payload of some half grains at a multiple of others. What is wanted, both together rounded up to grains, is written as a
+// number and 1, for the compiler to see that it is not 0.
 pub fn plan_take(a: &[u8], lists: &[u64], length: usize, multiple: usize) -> Plan
     requires { ⌜ Demand length multiple × Long (now lists) ⌝ }
     ensures { λ r. ⌜ Plans (now (a .entry)) (now (lists .entry)) length multiple r ⌝ }
 {
-    let wanted = (length + multiple + 1) / 2;
+    let wanted = (length + multiple - 1) / 2 + 1;
     if LARGE <= wanted {
         return refuse(NO_LIST);
     }
