@@ -1,20 +1,22 @@
 -- The first block of a list, as a take checks it: a grain of the arena, a free block of that list, nothing before it in the
--- list, a block in use behind it in the arena, and all links lead back. Each law is one return of the code.
+-- list, and a block in use behind it in the arena, whose link leads back. The script checks before the last of these that
+-- what is next leads back; the code does so behind all else, and since each check refuses with 5, the answer is the same.
+-- Each law is one return of the code.
 use Prim.Native.Nat.{ℕ, suc, _+_, _*_, _≤_, _<_}
 use native.Mathlib.Omega.{arith}
 use mathlib.Core.Path.{_≡_, refl, ap, sym, _∙_}
 use mathlib.Core.Bool.{Bool, true, false}
 use mathlib.Core.List.{List}
-use mathlib.Core.Logic.{inl, inr, ⊎-elim}
+use mathlib.Core.Logic.{_⊎_, inl, inr, ⊎-elim}
 use lib.ListN.{length}
-use Rattle.choice.specs.Choice.{same?}
+use Rattle.choice.specs.Choice.{eq-case, le?, same?}
 use Rattle.choice.specs.Says.{Says}
 use Rattle.word.specs.Word.{wordAt}
 use Rattle.table.specs.Table.{entry}
 use Rattle.bits.specs.Map.{mapWords, lists}
 use Rattle.class.specs.Class.{listOf}
 use Rattle.script.specs.Memory.{Memory, Size, Before, Next, Prev, none, root}
-use Rattle.script.specs.Script.{Script, Result, ok, no, run, _>>=_, _>>_, get, mustEq, goes, halts, reads, runs-stop, gives-eq, gives-le, halts-eq, halts-le}
+use Rattle.script.specs.Script.{Script, Result, ok, no, run, _>>=_, _>>_, get, mustEq, goes, halts, reads, runs-stop, gives-done, gives-eq, gives-le, halts-eq, halts-le}
 use Rattle.sound.specs.Checks.{Word, isFree, isUsed, isLast, isBad, wordOf, asFree, asBusy, mustGrain, mustLead, mustBack, mustBusy, mustFree}
 use Rattle.sound.specs.Plans.{Plan}
 use Rattle.slices.specs.Decode.{grains, wrongLink, Inside}
@@ -22,8 +24,8 @@ use Rattle.slices.specs.Arena.{sizeAt, linkAt, link-in, size-inside}
 use Rattle.slices.specs.Slices.{memory-size, memory-before}
 use Rattle.header.specs.Turned.{turned}
 use Rattle.header.specs.Told.{freeOf, busyOf}
-use Rattle.free_list.specs.Lent.{lent, held, noLink, link, Leads, link-none, link-some, link-grain, link-past}
-use Rattle.free_list.specs.Back.{Back, reading-next, reading-prev, back-yes, back-no}
+use Rattle.free_list.specs.Lent.{lent, held, noLink, link, link-none, link-some, link-grain, link-past}
+use Rattle.free_list.specs.Back.{reading-next, reading-prev}
 use Rattle.free_list.specs.Seen.{head-read}
 use Rattle.allocate.specs.declared.First.{First}
 
@@ -60,11 +62,13 @@ firstThen n k f = do
   mustGrain n y
   sizeThen n k y f
 
--- ---- what the code asks
+-- what is next leads back to it: as the code checks it, behind all else
+abbrev pub backThen : ℕ → (ℕ → ℕ → ℕ → Script Plan) → ℕ → ℕ → ℕ → Script Plan
+backThen n f y s x = do
+  mustBack n Prev x y
+  f y s x
 
--- nothing is before the block at y, and its next, the word x, leads back
-abbrev pub IsFirst : List ℕ → ℕ → ℕ → Type 0
-IsFirst a y x = (wordAt 8 a (4 * y + Prev) ≡ noLink) × Back a Prev x y
+-- ---- what the code asks
 
 -- a block in use is at z, behind the block at y
 abbrev pub IsBounded : List ℕ → ℕ → ℕ → Type 0
@@ -87,11 +91,41 @@ abbrev pub after : Bool → Result Plan → Result Plan
 after true x = x
 after false x = no 5
 
--- the answer on list k is that of the checks, whatever follows them
+-- the answer on list k is that of the checks, whatever follows them, where the check of what is next is still to come
 pub record SeenFirst (a l : List ℕ) (k : ℕ) (r : First) : Type 0 where
   pub seen : (v t : List ℕ) (f : ℕ → ℕ → ℕ → Script Plan) →
-      run (held a l v t) (firstThen (grains 8 a) k f) ≡ after (r .ok) (run (held a l v t) (f (r .at) (r .grains) (link a (r .next))))
-  pub inside : r .ok ≡ true → (r .at + r .grains < grains 8 a) × (0 < r .grains) × (listOf (r .grains) ≡ k) × Leads a (r .next)
+      run (held a l v t) (firstThen (grains 8 a) k f) ≡ after (r .ok) (run (held a l v t) (backThen (grains 8 a) f (r .at) (r .grains) (link a (r .next))))
+  pub inside : r .ok ≡ true → (r .at + r .grains < grains 8 a) × (0 < r .grains) × (listOf (r .grains) ≡ k)
+
+-- ---- the check of what is next, before or behind the others
+
+-- it passes, or refuses with 5
+back-either : (m : Memory) (n y x : ℕ) → (run m (mustBack n Prev x y) ≡ ok (tt {0})) ⊎ (run m (mustBack n Prev x y) ≡ no 5)
+back-either m n y x = eq-case (λ (t : Script (Unit {0})). (run m t ≡ ok (tt {0})) ⊎ (run m t ≡ no 5)) x none _ _
+    (λ _. inl (gives-done m (tt {0})))
+    (λ _. ⊎-elim
+    (λ (h : n ≤ x). inr (halts m (mustGrain n x) _ (halts-le m 5 (suc x) n (omega arith))))
+    (λ (h : x < n).
+    let g = goes m (mustGrain n x) (λ _. mustLead Prev x y) (gives-le m 5 (suc x) n (omega arith)) ∙ reads m Prev x _ refl in ⊎-elim
+    (λ (e : m Prev x ≡ y). inl (g ∙ gives-eq m 5 (m Prev x) y e))
+    (λ (e : m Prev x ≡ y → ⊥). inr (g ∙ halts-eq m 5 (m Prev x) y e))
+    (same? (m Prev x) y))
+    (le? n x))
+
+module _ (m : Memory) (n y x : ℕ) (f : Script Plan) where
+  -- what is refused behind it is refused
+  pub back-refused : run m f ≡ no 5 → run m (mustBack n Prev x y >> f) ≡ no 5
+  back-refused h = ⊎-elim
+      (λ (e : run m (mustBack n Prev x y) ≡ ok (tt {0})). goes m (mustBack n Prev x y) _ e ∙ h)
+      (λ (e : run m (mustBack n Prev x y) ≡ no 5). halts m (mustBack n Prev x y) _ e)
+      (back-either m n y x)
+
+  -- what has one answer behind it has one with it
+  back-same : (g : Script Plan) → run m f ≡ run m g → run m (mustBack n Prev x y >> f) ≡ run m (mustBack n Prev x y >> g)
+  back-same g h = ⊎-elim
+      (λ (e : run m (mustBack n Prev x y) ≡ ok (tt {0})). goes m (mustBack n Prev x y) _ e ∙ h ∙ sym (goes m (mustBack n Prev x y) _ e))
+      (λ (e : run m (mustBack n Prev x y) ≡ no 5). halts m (mustBack n Prev x y) _ e ∙ sym (halts m (mustBack n Prev x y) _ e))
+      (back-either m n y x)
 
 -- ---- the parts, on any memory
 
@@ -110,11 +144,8 @@ module _ (m : Memory) (n y s : ℕ) (f : Onward) where
     endless isLast e b = reads m Size (y + s) _ refl ∙ ap (λ (w : Word). run m (asBusy w >> (mustLead Before (y + s) y >> f y s x))) e ∙ reads m Before (y + s) _ refl ∙ halts m (mustEq (m Before (y + s)) y) _ (halts-eq m 5 (m Before (y + s)) y (λ q. b (refl, q)))
     endless isBad e b = reads m Size (y + s) _ refl ∙ ap (λ (w : Word). run m (asBusy w >> (mustLead Before (y + s) y >> f y s x))) e ∙ runs-stop m 5
 
-    links : m Prev y ≡ none → m Next y ≡ x → run m (mustBack n Prev x y) ≡ ok (tt {0}) → run m (linksThen n y s f) ≡ run m (endThen y s x f)
-    links p q b = reads m Prev y _ p ∙ goes m (mustEq none none) _ (gives-eq m 5 none none refl) ∙ reads m Next y _ q ∙ goes m (mustBack n Prev x y) _ b
-
-    next-astray : m Prev y ≡ none → m Next y ≡ x → run m (mustBack n Prev x y) ≡ no 5 → run m (linksThen n y s f) ≡ no 5
-    next-astray p q b = reads m Prev y _ p ∙ goes m (mustEq none none) _ (gives-eq m 5 none none refl) ∙ reads m Next y _ q ∙ halts m (mustBack n Prev x y) _ b
+    links : m Prev y ≡ none → m Next y ≡ x → run m (linksThen n y s f) ≡ run m (mustBack n Prev x y >> endThen y s x f)
+    links p q = reads m Prev y _ p ∙ goes m (mustEq none none) _ (gives-eq m 5 none none refl) ∙ reads m Next y _ q
 
   prev-astray : (m Prev y ≡ none → ⊥) → run m (linksThen n y s f) ≡ no 5
   prev-astray p = reads m Prev y _ refl ∙ halts m (mustEq (m Prev y) none) _ (halts-eq m 5 (m Prev y) none p)
@@ -148,18 +179,13 @@ free-word isBad n y g i e p = absurd (p e)
 pub free-inside : (a : List ℕ) (y g : ℕ) → g ≡ freeOf (wordOf (sizeAt 8 a y)) → (g ≡ 0 → ⊥) → y + g < grains 8 a
 free-inside a y g e p = free-word (wordOf (sizeAt 8 a y)) (grains 8 a) y g (size-inside 8 a y) e p .1
 
--- a link that leads back leads
-back-leads : (a : List ℕ) (y x : ℕ) → Back a Prev x y → Leads a x
-back-leads a y x (inl e) = inl e
-back-leads a y x (inr q) = inr (q .0)
-
 -- ---- the returns
 
 -- what was lost is nowhere
 lose : (a l : List ℕ) (k : ℕ) (r : First) → Lost r
     → ((v t : List ℕ) (f : Onward) → run (held a l v t) (firstThen (grains 8 a) k f) ≡ no 5) → SeenFirst a l k r
 lose a l k r e h = record {
-  seen = λ v t f. h v t f ∙ ap (λ (b : Bool). after b (run (held a l v t) (f (r .at) (r .grains) (link a (r .next))))) (sym e);
+  seen = λ v t f. h v t f ∙ ap (λ (b : Bool). after b (run (held a l v t) (backThen (grains 8 a) f (r .at) (r .grains) (link a (r .next))))) (sym e);
   inside = λ q. let z : true ≡ false = sym q ∙ e in let c : _≡_ {A = ℕ} 0 1 = cc in absurd (omega arith);
 }
 
@@ -203,32 +229,28 @@ module _ (a l : List ℕ) (k h y : ℕ) (s : length a < 18446744073709551616) (j
         prev-read : (v t : List ℕ) → held a l v t Prev y ≡ link a (wordAt 8 a (4 * y + Prev))
         prev-read v t = reading-prev a l v t y i ∙ link-in 8 a y Prev 0 i
 
-        -- something is before it, or the next does not lead back
-        pub first-astray : Lost r → (IsFirst a y x → ⊥) → SeenFirst a l k r
-        first-astray o u = lose a l k r o λ v t f. size-is v t f ∙ ⊎-elim
-            (λ (b : wordAt 8 a (4 * y + Prev) ≡ noLink). next-astray (held a l v t) (grains 8 a) y g f (link a x)
-            (prev-read v t ∙ link-none a (wordAt 8 a (4 * y + Prev)) s b) (next-read v t)
-            (back-no (held a l v t) a Prev x y s (reading-prev a l v t) (λ d. u (b, d))))
-            (λ (b : wordAt 8 a (4 * y + Prev) ≡ noLink → ⊥). prev-astray (held a l v t) (grains 8 a) y g f
-            (λ d. link-some a (wordAt 8 a (4 * y + Prev)) s b (sym (prev-read v t) ∙ d)))
-            (same? (wordAt 8 a (4 * y + Prev)) noLink)
+        -- something is before it
+        pub first-preceded : Lost r → (wordAt 8 a (4 * y + Prev) ≡ noLink → ⊥) → SeenFirst a l k r
+        first-preceded o u = lose a l k r o λ v t f. size-is v t f ∙ prev-astray (held a l v t) (grains 8 a) y g f
+            (λ d. link-some a (wordAt 8 a (4 * y + Prev)) s u (sym (prev-read v t) ∙ d))
 
-        module _ (u : IsFirst a y x) where
-          links-are : (v t : List ℕ) (f : Onward) → run (held a l v t) (firstThen (grains 8 a) k f) ≡ run (held a l v t) (endThen y g (link a x) f)
+        module _ (u : wordAt 8 a (4 * y + Prev) ≡ noLink) where
+          links-are : (v t : List ℕ) (f : Onward) → run (held a l v t) (firstThen (grains 8 a) k f) ≡ run (held a l v t) (mustBack (grains 8 a) Prev (link a x) y >> endThen y g (link a x) f)
           links-are v t f = size-is v t f ∙ links (held a l v t) (grains 8 a) y g f (link a x)
-              (prev-read v t ∙ link-none a (wordAt 8 a (4 * y + Prev)) s (u .0)) (next-read v t)
-              (back-yes (held a l v t) a Prev x y s (reading-prev a l v t) (u .1))
+              (prev-read v t ∙ link-none a (wordAt 8 a (4 * y + Prev)) s u) (next-read v t)
 
           -- no block in use is behind it
           pub first-unbounded : Lost r → (IsBounded a y (y + g) → ⊥) → SeenFirst a l k r
           first-unbounded o b = lose a l k r o λ v t f. links-are v t f
-              ∙ endless (held a l v t) (grains 8 a) y g f (link a x) (wordOf (sizeAt 8 a (y + g))) (ap wordOf (memory-size 8 (lent a l v t) (y + g)))
-              (λ d. b (d .0, sym (reading-before a l v t (y + g) first-inside) ∙ d .1))
+              ∙ back-refused (held a l v t) (grains 8 a) y (link a x) (endThen y g (link a x) f)
+              (endless (held a l v t) (grains 8 a) y g f (link a x) (wordOf (sizeAt 8 a (y + g))) (ap wordOf (memory-size 8 (lent a l v t) (y + g)))
+              (λ d. b (d .0, sym (reading-before a l v t (y + g) first-inside) ∙ d .1)))
 
           -- all agrees
           pub first-seen : r ≡ record { ok = true; at = y; grains = g; next = x } → IsBounded a y (y + g) → SeenFirst a l k r
           first-seen d b = rw d (record {
             seen = λ v t f. links-are v t f
-                ∙ ends (held a l v t) (grains 8 a) y g f (link a x) (wordOf (sizeAt 8 a (y + g))) (ap wordOf (memory-size 8 (lent a l v t) (y + g))) (b .0) (reading-before a l v t (y + g) first-inside ∙ b .1);
-            inside = λ _. (first-inside, omega (arith, p), sym w ∙ z, back-leads a y x (u .1));
+                ∙ back-same (held a l v t) (grains 8 a) y (link a x) (endThen y g (link a x) f) (f y g (link a x))
+                (ends (held a l v t) (grains 8 a) y g f (link a x) (wordOf (sizeAt 8 a (y + g))) (ap wordOf (memory-size 8 (lent a l v t) (y + g))) (b .0) (reading-before a l v t (y + g) first-inside ∙ b .1));
+            inside = λ _. (first-inside, omega (arith, p), sym w ∙ z);
           })

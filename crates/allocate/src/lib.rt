@@ -7,9 +7,9 @@ ghost use Rattle.choice.specs.Choice.{ifEq};
 ghost use Rattle.class.specs.Class.{listOf};
 ghost use Rattle.definition.specs.Calls.{wanted as wantedOf};
 ghost use Rattle.slices.specs.Decode.{grains as grainsOf};
-ghost use Rattle.free_list.specs.Lent.{Long, Room, Leads};
+ghost use Rattle.free_list.specs.Lent.{Long, Room};
 ghost use Rattle.allocate.specs.Demand.{Demand};
-ghost use Rattle.allocate.specs.First.{IsFirst, IsBounded, Lost, SeenFirst};
+ghost use Rattle.allocate.specs.First.{IsBounded, Lost, SeenFirst};
 ghost use Rattle.allocate.specs.Rest.{SeenRest};
 ghost use Rattle.allocate.specs.Plan.{Refuses, Cuts, Plans};
 use bits::LISTS;
@@ -41,7 +41,7 @@ pub struct Plan {
     pub head: u64,
 }
 
-// The first block of a list, where all that is beside it agrees.
+// The first block of a list, where all that is beside it agrees, but for what is next, which is still to be asked.
 struct First {
     pub ok: bool,
     pub at: usize,
@@ -88,7 +88,8 @@ pub fn plan_take(a: &[u8], lists: &[u64], length: usize, multiple: usize) -> Pla
     )
 }
 
-// The same, where the first block of the list was seen.
+// The same, where the first block of the list was seen. Whether what is next leads back to it is asked last: the writes ask
+// first whether anything is next, so the compiler makes one test of both.
 fn cut(
     a: &[u8],
     lists: &[u64],
@@ -99,13 +100,16 @@ fn cut(
     length: usize,
     multiple: usize,
 ) -> Plan
-    requires { ⌜ Demand length multiple × Room list (now lists) × (at + grains < grainsOf 8 (now a)) × (listOf grains ≡ list) × (wantedOf length multiple ≤ grains) × Leads (now a) next ⌝ }
+    requires { ⌜ Demand length multiple × Room list (now lists) × (at + grains < grainsOf 8 (now a)) × (listOf grains ≡ list) × (wantedOf length multiple ≤ grains) ⌝ }
     ensures { λ r. ⌜ Cuts (now (a .entry)) (now (lists .entry)) list at grains next length multiple r ⌝ }
 {
     let place = request::place_of(multiple, at);
     let keep = request::keeps_of(place, length);
     let rest = see_rest(a, lists, list, next, grains, keep);
     if !rest.ok {
+        return refuse(DAMAGED);
+    }
+    if !free_list::leads_back(a, PREV, next, at) {
         return refuse(DAMAGED);
     }
     Plan {
@@ -157,7 +161,7 @@ fn see_first(a: &[u8], lists: &[u64], k: usize) -> First
         return lost();
     }
     let next = header::field(a, at, NEXT);
-    if !is_first(a, at, next) {
+    if header::field(a, at, PREV) != NONE {
         return lost();
     }
     if !is_bounded(a, at, at + grains) {
@@ -181,17 +185,6 @@ fn lost() -> First
         grains: 0,
         next: 0,
     }
-}
-
-// Whether nothing is before the block at y in its list, and what is next leads back to it.
-fn is_first(a: &[u8], y: usize, next: u64) -> bool
-    requires { ⌜ y < grainsOf 8 (now a) ⌝ }
-    ensures { λ r. ⌜ Says (IsFirst (now (a .entry)) y next) r ⌝ }
-{
-    if header::field(a, y, PREV) != NONE {
-        return false;
-    }
-    free_list::leads_back(a, PREV, next, y)
 }
 
 // Whether a block in use is at z, behind the block at y.

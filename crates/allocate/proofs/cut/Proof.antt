@@ -1,10 +1,11 @@
--- `allocate::cut`: the payload's place and what the block keeps, then the rest, whose answer decides.
+-- `allocate::cut`: the payload's place and what the block keeps, then the rest and what is next, whose answers decide.
 use native.Mathlib.Omega.{arith}
 use borrow.Author.Tests.{not-true, not-false}
 use Rattle.align.specs.Align.{power-pos}
+use Rattle.choice.specs.Says.{says-yes, says-no}
 use Rattle.invariants.specs.Placing.{place-most}
 use Rattle.header.specs.Turned.{grains-few}
-use Rattle.allocate.specs.Plan.{keeps-within, cut-damaged, cut-made}
+use Rattle.allocate.specs.Plan.{keeps-within, cut-damaged, cut-astray, cut-made}
 use borrow.Author.Needs.{needs}
 use Rattle.allocate.proofs.cut.Statement.{statement}
 use Rattle.allocate.proofs.cut.Tie as tie
@@ -41,14 +42,31 @@ returns c =
     cut-damaged (s .args .a .now) (s .args .lists .now) (s .args .list) (s .args .at) (s .args .grains) (s .args .next) (s .args .length) (s .args .multiple) (p .place-of .result) (k .keeps-of .result)
     (c .refuse .result) (r .see-rest .result) (c .refuse .ensures) (p .place-of .ensures) (k .keeps-of .ensures) (r .see-rest .ensures) (not-true _ (c .before .if1 .taken))
 
+leads-back-requires : tie.Need-leads-back-requires
+leads-back-requires c κs =
+    let s = c .before .before .before .before .before .before .before in
+    (omega arith, omega (arith, s .pre .2))
+
+refuse-requires-2 : tie.Need-refuse-requires-2
+refuse-requires-2 c κs = search needs
+
 returns-2 : tie.Need-returns-2
 returns-2 c =
-    let r = c .before .before in
+    let b = c .before .before in
+    let s = b .before .before .before .before .before .before .before .before in
+    cut-astray (s .args .a .now) (s .args .lists .now) (s .args .list) (s .args .at) (s .args .grains) (s .args .next) (s .args .length) (s .args .multiple)
+    (c .refuse2 .result) (s .good .0 .0) (c .refuse2 .ensures) (says-no _ (b .leads-back .result) (b .leads-back .ensures) (not-true _ (c .before .if2 .taken)))
+
+returns-3 : tie.Need-returns-3
+returns-3 c =
+    let b = c .before in
+    let r = b .before .before .before in
     let k = r .before in
     let p = k .before in
     let s = p .before .before .before in
     cut-made (s .args .a .now) (s .args .lists .now) (s .args .list) (s .args .at) (s .args .grains) (s .args .next) (s .args .length) (s .args .multiple) (p .place-of .result) (k .keeps-of .result)
-    (r .see-rest .result) (power-pos (s .args .multiple) (s .pre .0 .power)) (s .pre .1) (s .pre .5) (s .pre .2) (s .pre .4) (p .place-of .ensures) (k .keeps-of .ensures) (r .see-rest .ensures) (not-false _ (c .if1 .left))
+    (r .see-rest .result) (s .good .0 .0) (power-pos (s .args .multiple) (s .pre .0 .power)) (s .pre .1) (says-yes _ (b .leads-back .result) (b .leads-back .ensures) (not-false _ (c .if2 .left)))
+    (s .pre .2) (s .pre .4) (p .place-of .ensures) (k .keeps-of .ensures) (r .see-rest .ensures) (not-false _ (b .before .if1 .left))
 
 pub cut-spec : {M : Type 1} → statement M
 cut-spec =
@@ -59,4 +77,7 @@ cut-spec =
     see-rest-requires
     refuse-requires
     returns
-    returns-2)
+    leads-back-requires
+    refuse-requires-2
+    returns-2
+    returns-3)

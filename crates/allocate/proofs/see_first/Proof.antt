@@ -1,10 +1,10 @@
 -- `allocate::see_first`: each return is one law of a list's first block.
 use native.Mathlib.Omega.{arith}
-use mathlib.Core.Path.{refl}
+use mathlib.Core.Path.{refl, sym, _∙_}
 use borrow.Author.Tests.{not-true, not-false}
 use Rattle.choice.specs.Says.{says-yes, says-no}
 use Rattle.header.specs.Turned.{grains-few}
-use Rattle.allocate.specs.First.{free-inside, first-outside, first-busy, first-elsewhere, first-astray, first-unbounded, first-seen}
+use Rattle.allocate.specs.First.{free-inside, first-outside, first-busy, first-elsewhere, first-preceded, first-unbounded, first-seen}
 use borrow.Author.Needs.{needs}
 use Rattle.allocate.proofs.see_first.Statement.{statement}
 use Rattle.allocate.proofs.see_first.Tie as tie
@@ -74,8 +74,8 @@ returns-3 c =
 field-requires : tie.Need-field-requires
 field-requires c κs = search needs
 
-is-first-requires : tie.Need-is-first-requires
-is-first-requires c κs = search needs
+field-requires-2 : tie.Need-field-requires-2
+field-requires-2 c κs = search needs
 
 lost-requires-4 : tie.Need-lost-requires-4
 lost-requires-4 c κs = search needs
@@ -92,8 +92,8 @@ returns-4 c =
     let g = n .before in
     let f = g .before in
     let s = f .before .before .before in
-    first-astray (s .args .a .now) (s .args .lists .now) (s .args .k) (f .fetch .result) (g .grain-of .result) (s .good .0 .0) (s .pre .known) (f .fetch .ensures) (g .grain-of .ensures) (c .lost4 .result) (omega arith) (b .free-at .result) (b .free-at .ensures) (e .if2 .left) (m .map-floor .result) (m .map-floor .ensures) (j .if3 .left) (d .field .result) (d .field .ensures) (c .lost4 .ensures)
-    (says-no _ (i .is-first .result) (i .is-first .ensures) (not-true _ (c .before .if4 .taken)))
+    first-preceded (s .args .a .now) (s .args .lists .now) (s .args .k) (f .fetch .result) (g .grain-of .result) (s .good .0 .0) (s .pre .known) (f .fetch .ensures) (g .grain-of .ensures) (c .lost4 .result) (omega arith) (b .free-at .result) (b .free-at .ensures) (e .if2 .left) (m .map-floor .result) (m .map-floor .ensures) (j .if3 .left) (d .field .result) (d .field .ensures) (c .lost4 .ensures)
+    (λ z. c .before .if4 .taken (i .field2 .ensures ∙ z))
 
 add-is-bounded : tie.Need-add-is-bounded
 add-is-bounded c =
@@ -141,7 +141,7 @@ returns-5 c =
     let f = g .before in
     let s = f .before .before .before in
     first-unbounded (s .args .a .now) (s .args .lists .now) (s .args .k) (f .fetch .result) (g .grain-of .result) (s .good .0 .0) (s .pre .known) (f .fetch .ensures) (g .grain-of .ensures) (c .lost5 .result) (omega arith) (b .free-at .result) (b .free-at .ensures) (e .if2 .left) (m .map-floor .result) (m .map-floor .ensures) (j .if3 .left) (d .field .result) (d .field .ensures)
-    (says-yes _ (i .is-first .result) (i .is-first .ensures) (not-false _ (q .if4 .left))) (c .lost5 .ensures) (says-no _ (o .is-bounded .result) (o .is-bounded .ensures) (not-true _ (c .before .if5 .taken)))
+    (sym (i .field2 .ensures) ∙ q .if4 .left) (c .lost5 .ensures) (says-no _ (o .is-bounded .result) (o .is-bounded .ensures) (not-true _ (c .before .if5 .taken)))
 
 returns-6 : tie.Need-returns-6
 returns-6 c =
@@ -158,7 +158,7 @@ returns-6 c =
     let f = g .before in
     let s = f .before .before .before in
     first-seen (s .args .a .now) (s .args .lists .now) (s .args .k) (f .fetch .result) (g .grain-of .result) (s .good .0 .0) (s .pre .known) (f .fetch .ensures) (g .grain-of .ensures) _ (omega arith) (b .free-at .result) (b .free-at .ensures) (e .if2 .left) (m .map-floor .result) (m .map-floor .ensures) (j .if3 .left) (d .field .result) (d .field .ensures)
-    (says-yes _ (i .is-first .result) (i .is-first .ensures) (not-false _ (q .if4 .left))) refl (says-yes _ (o .is-bounded .result) (o .is-bounded .ensures) (not-false _ (c .if5 .left)))
+    (sym (i .field2 .ensures) ∙ q .if4 .left) refl (says-yes _ (o .is-bounded .result) (o .is-bounded .ensures) (not-false _ (c .if5 .left)))
 
 pub see-first-spec : {M : Type 1} → statement M
 see-first-spec =
@@ -177,7 +177,7 @@ see-first-spec =
     lost-requires-3
     returns-3
     field-requires
-    is-first-requires
+    field-requires-2
     lost-requires-4
     returns-4
     add-is-bounded
