@@ -20,10 +20,6 @@ use Rattle.neighbours.specs.Leaving.{bothLeaving}
 use Rattle.deallocate.specs.declared.Plan.{Plan as PlanAnswer}
 use Rattle.deallocate.specs.Shown.{joinedWrites, backWrites, Able, able-keep}
 
--- the joined block starts in the arena
-pub at-start : (a : List ℕ) (r : PlanAnswer) → Able a r → r .at < grains 8 a
-at-start a r h = omega (arith, h .inside)
-
 -- ---- its two ends
 
 -- the words of a free block of t grains at z
