@@ -68,37 +68,33 @@ module _ (a l v t : List ℕ) (q x s : ℕ) (e : BesideAnswer) (p : SeenBehind a
       ∙ sym (goes (held a l v t) (seeBehind (grains 8 a) classes (x + s)) _ (sym (p .answer v t) ∙ ap (λ (b : Bool). answer b (seenOf a e)) o))
 
 -- e stands behind, and f was seen before
-module _ (a l v t : List ℕ) (q x s : ℕ) (e : Neighbour) (b : Behind a x s e) (f : BesideAnswer) (d : SeenBefore a l x f) where
-  -- it doesn't agree
-  pub before-out : f .ok ≡ false → no 5 ≡ run (held a l v t) (beforeScript (grains 8 a) q x s (behindOf a e))
-  before-out c = sym (halts (held a l v t) (seeBefore (grains 8 a) classes x) _ (sym (d .answer v t) ∙ ap (λ (b : Bool). answer b (seenOf a f)) c))
+module _ (a l v t : List ℕ) (q x s : ℕ) (e : Neighbour) (b : Behind a x s e) (f : BesideAnswer) (d : SeenBefore a l x f)
+    (c : f .ok ≡ true) (few : length a < 18446744073709551616) where
+  before-seen : run (held a l v t) (beforeScript (grains 8 a) q x s (behindOf a e))
+      ≡ run (held a l v t) (joinScript (grains 8 a) classes q (x - f .grains) (f .grains + (s + e .grains)) (bothLeaving a e (secondOf e (x - f .grains) f)))
+  before-seen =
+      goes (held a l v t) (seeBefore (grains 8 a) classes x) _ (sym (d .answer v t) ∙ ap (λ (b : Bool). answer b (seenOf a f)) c)
+      ∙ ap (λ (r : ℕ). run (held a l v t) (joinScript (grains 8 a) classes q (x - r) (r + (s + roomOf (behindOf a e))) (bothLeave (behindOf a e) (x - r) (seenOf a f)))) (room-is (f .grains) _)
+      ∙ ap (λ (r : ℕ). run (held a l v t) (joinScript (grains 8 a) classes q (x - f .grains) (f .grains + (s + r)) (bothLeave (behindOf a e) (x - f .grains) (seenOf a f)))) (room-is (e .grains) _)
+      ∙ ap (λ (w : List Write). run (held a l v t) (joinScript (grains 8 a) classes q (x - f .grains) (f .grains + (s + e .grains)) w))
+      (both-leave a e f (x - f .grains) few (omega (arith, b .inside)) (b .list) (d .list))
 
-  module _ (c : f .ok ≡ true) (few : length a < 18446744073709551616) where
-    before-seen : run (held a l v t) (beforeScript (grains 8 a) q x s (behindOf a e))
-        ≡ run (held a l v t) (joinScript (grains 8 a) classes q (x - f .grains) (f .grains + (s + e .grains)) (bothLeaving a e (secondOf e (x - f .grains) f)))
-    before-seen =
-        goes (held a l v t) (seeBefore (grains 8 a) classes x) _ (sym (d .answer v t) ∙ ap (λ (b : Bool). answer b (seenOf a f)) c)
-        ∙ ap (λ (r : ℕ). run (held a l v t) (joinScript (grains 8 a) classes q (x - r) (r + (s + roomOf (behindOf a e))) (bothLeave (behindOf a e) (x - r) (seenOf a f)))) (room-is (f .grains) _)
-        ∙ ap (λ (r : ℕ). run (held a l v t) (joinScript (grains 8 a) classes q (x - f .grains) (f .grains + (s + r)) (bothLeave (behindOf a e) (x - f .grains) (seenOf a f)))) (room-is (e .grains) _)
-        ∙ ap (λ (w : List Write). run (held a l v t) (joinScript (grains 8 a) classes q (x - f .grains) (f .grains + (s + e .grains)) w))
-        (both-leave a e f (x - f .grains) few (omega (arith, b .inside)) (b .list) (d .list))
+  -- a free block, which leaves as g
+  pub before-joined : (g : Neighbour) → g ≡ secondOf e (x - f .grains) f
+      → run (held a l v t) (joinScript (grains 8 a) classes q (x - f .grains) (f .grains + (s + e .grains)) (bothLeaving a e g)) ≡ run (held a l v t) (beforeScript (grains 8 a) q x s (behindOf a e))
+  before-joined g i =
+      ap (λ (g : Neighbour). run (held a l v t) (joinScript (grains 8 a) classes q (x - f .grains) (f .grains + (s + e .grains)) (bothLeaving a e g))) i ∙ sym before-seen
 
-    -- a free block, which leaves as g
-    pub before-joined : (g : Neighbour) → g ≡ secondOf e (x - f .grains) f
-        → run (held a l v t) (joinScript (grains 8 a) classes q (x - f .grains) (f .grains + (s + e .grains)) (bothLeaving a e g)) ≡ run (held a l v t) (beforeScript (grains 8 a) q x s (behindOf a e))
-    before-joined g i =
-        ap (λ (g : Neighbour). run (held a l v t) (joinScript (grains 8 a) classes q (x - f .grains) (f .grains + (s + e .grains)) (bothLeaving a e g))) i ∙ sym before-seen
-
-    -- nobody, as g is nobody
-    pub before-alone : f .grains ≡ 0 → (g : Neighbour) → g .grains ≡ 0
-        → run (held a l v t) (joinScript (grains 8 a) classes q x (s + e .grains) (bothLeaving a e g)) ≡ run (held a l v t) (beforeScript (grains 8 a) q x s (behindOf a e))
-    before-alone n g m =
-        let h = secondOf e (x - f .grains) f in
-        let start : x ≡ x - f .grains = omega arith in
-        let size : s + e .grains ≡ f .grains + (s + e .grains) = omega arith in
-        ap (λ (w : List Write). run (held a l v t) (joinScript (grains 8 a) classes q x (s + e .grains) (leavingOf a e ++ w))) (leaving-nobody a g m ∙ sym (leaving-nobody a h n))
-        ∙ ap (λ (z : ℕ). run (held a l v t) (joinScript (grains 8 a) classes q z (s + e .grains) (bothLeaving a e h))) start
-        ∙ ap (λ (r : ℕ). run (held a l v t) (joinScript (grains 8 a) classes q (x - f .grains) r (bothLeaving a e h))) size ∙ sym before-seen
+  -- nobody, as g is nobody
+  pub before-alone : f .grains ≡ 0 → (g : Neighbour) → g .grains ≡ 0
+      → run (held a l v t) (joinScript (grains 8 a) classes q x (s + e .grains) (bothLeaving a e g)) ≡ run (held a l v t) (beforeScript (grains 8 a) q x s (behindOf a e))
+  before-alone n g m =
+      let h = secondOf e (x - f .grains) f in
+      let start : x ≡ x - f .grains = omega arith in
+      let size : s + e .grains ≡ f .grains + (s + e .grains) = omega arith in
+      ap (λ (w : List Write). run (held a l v t) (joinScript (grains 8 a) classes q x (s + e .grains) (leavingOf a e ++ w))) (leaving-nobody a g m ∙ sym (leaving-nobody a h n))
+      ∙ ap (λ (z : ℕ). run (held a l v t) (joinScript (grains 8 a) classes q z (s + e .grains) (bothLeaving a e h))) start
+      ∙ ap (λ (r : ℕ). run (held a l v t) (joinScript (grains 8 a) classes q (x - f .grains) r (bothLeaving a e h))) size ∙ sym before-seen
 
 -- ---- the owner
 

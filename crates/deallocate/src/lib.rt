@@ -1,6 +1,7 @@
 // The return of a block: its plan, which is read off the lent slices and checked before anything is written. A free
 // neighbour leaves its list, and the joined block goes to the head of the list of its size.
 ghost use mathlib.Core.Path.{_≡_};
+ghost use mathlib.Core.Bool.{true};
 ghost use Prim.Native.Nat.{_+_, _*_, _≤_, _<_};
 ghost use lib.ListN.{length};
 ghost use Rattle.sound.specs.Plans.{joinScript};
@@ -8,6 +9,7 @@ ghost use Rattle.slices.specs.Decode.{grains};
 ghost use Rattle.free_list.specs.Written.{WrittenLive};
 ghost use Rattle.free_list.specs.Lent.{classes, Long};
 ghost use Rattle.neighbours.specs.Leaving.{Known, bothLeaving, behindOf};
+ghost use Rattle.neighbours.specs.Shown.{SeenBefore};
 ghost use Rattle.neighbours.specs.Within.{Behind};
 ghost use Rattle.deallocate.specs.Shown.{backWrites, joinedWrites, Able, Planned, BackPlanned, beforeScript, mergeScript};
 ghost use Rattle.deallocate.specs.Written.{freed};
@@ -15,6 +17,7 @@ use bits::LISTS;
 use header::BEFORE;
 use header::NONE;
 use header::SIZE;
+use neighbours::Beside;
 use neighbours::Neighbour;
 
 // The records contradict each other.
@@ -46,17 +49,22 @@ pub fn plan_back(a: &[u8], lists: &[u64], live: &[u64], q: usize) -> Plan
     plan_merge(a, lists, o.at, o.grains)
 }
 
-// The used block of s grains at x is joined with its free neighbours.
+// The used block of s grains at x is joined with its free neighbours. The one before it is seen first, as the words of both
+// are then fetched at once.
 fn plan_merge(a: &[u8], lists: &[u64], x: usize, s: usize) -> Plan
     requires { ⌜ (1 ≤ s) × (x + s < grains 8 (now a)) × Long (now lists) ⌝ }
     ensures { λ r. ⌜ Planned (now (a .entry)) (now (lists .entry)) (λ q. mergeScript (grains 8 (now (a .entry))) q x s) r ⌝ }
 {
+    let f = neighbours::see_before(a, lists, x);
+    if !f.ok {
+        return refused(DAMAGED);
+    }
     let e = neighbours::see_behind(a, lists, x + s);
     if !e.ok {
         return refused(DAMAGED);
     }
     if e.grains == 0 {
-        return plan_before(a, lists, x, s, neighbours::no_neighbour());
+        return plan_both(a, lists, x, s, neighbours::no_neighbour(), f);
     }
     let behind = Neighbour {
         grains: e.grains,
@@ -64,19 +72,15 @@ fn plan_merge(a: &[u8], lists: &[u64], x: usize, s: usize) -> Plan
         next: e.next,
         prev: e.prev,
     };
-    plan_before(a, lists, x, s, behind)
+    plan_both(a, lists, x, s, behind, f)
 }
 
-// The same, where what stands behind it was seen.
-fn plan_before(a: &[u8], lists: &[u64], x: usize, s: usize, behind: Neighbour) -> Plan
-    requires { ⌜ (1 ≤ s) × Behind (now a) x s behind × Long (now lists) ⌝ }
+// The same, where what stands behind it was seen, and f before it.
+fn plan_both(a: &[u8], lists: &[u64], x: usize, s: usize, behind: Neighbour, f: Beside) -> Plan
+    requires { ⌜ (1 ≤ s) × Behind (now a) x s behind × Long (now lists) × SeenBefore (now a) (now lists) x f × (f .ok ≡ true) ⌝ }
     ensures { λ r. ⌜ Planned (now (a .entry)) (now (lists .entry))
         (λ q. beforeScript (grains 8 (now (a .entry))) q x s (behindOf (now (a .entry)) behind)) r ⌝ }
 {
-    let f = neighbours::see_before(a, lists, x);
-    if !f.ok {
-        return refused(DAMAGED);
-    }
     let t = s + behind.grains;
     if f.grains == 0 {
         return plan_join(a, lists, x, t, behind, neighbours::no_neighbour());
