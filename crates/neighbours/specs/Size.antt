@@ -65,5 +65,5 @@ module _ (a : List ℕ) (g t v : ℕ) (s : length a < 18446744073709551616) (p :
       let k : v - 1 ≡ 32 * t = omega arith in
       let d : turned (v - 1) ≡ t = ap turned k ∙ turned-is t in
       let u : usedOf (wordOf (sizeAt 8 a g)) ≡ t =
-      ap (λ (x : ℕ). usedOf (wordOf x)) (size-word a g v (omega arith) e) ∙ told-used (grains 8 a) g v (omega arith) (grains-few a s) (λ q. omega arith) (omega arith) ∙ d in
+      ap (λ (x : ℕ). usedOf (wordOf x)) (size-word a g v (omega arith) e) ∙ told-used (grains 8 a) g v (omega arith) (grains-few a s) (omega arith) (omega arith) ∙ d in
       used-some (wordOf (sizeAt 8 a g)) (λ q. omega arith) ∙ ap isUsed u
