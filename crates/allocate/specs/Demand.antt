@@ -5,7 +5,6 @@ use native.Mathlib.Omega.{arith}
 use Rattle.align.specs.Align.{Power}
 use Rattle.request.specs.declared.Request.{Request}
 use Rattle.request.specs.Alignment.{multiple-most}
-use Rattle.request.specs.Sized.{SizedNumbers}
 use Rattle.request.specs.Asked.{Numbers}
 use Rattle.request.specs.Range.{asked-power}
 
@@ -24,7 +23,3 @@ asked-demand n a r h =
       most = omega (arith, most, h .multiple);
       fits = omega (arith, most, h .multiple, h .length, h .range .fits);
     }
-
--- the request of n bytes at a multiple of u half grains
-pub sized-demand : (n u : ℕ) (r : Request) → Power u → u ≤ 256 → SizedNumbers n u r → Demand (r .length) u
-sized-demand n u r p m h = record { power = p; most = m; fits = omega (arith, m, h .length, h .room) }

@@ -7,7 +7,6 @@ ghost use Rattle.bits.specs.Map.{mapWords, lists as listCount};
 ghost use Rattle.tables.specs.Length.{liveLength};
 ghost use Rattle.firmheap.specs.Replies.{taken, done, given, laid};
 ghost use Rattle.firmheap.specs.Contracts.{Allocates, Deallocates, Reallocates, Initialises, Inserts, Appends};
-ghost use Rattle.firmheap.specs.Take.{Takable, TakesSized};
 ghost use Rattle.calls.specs.Bytes.{following};
 ghost use Rattle.firmheap.specs.Give.{Lays};
 
@@ -70,7 +69,8 @@ pub fn live_length(arena: usize) -> usize
 
 // ---- take
 
-// A payload of `size` bytes at a multiple of `align`.
+// A payload of `size` bytes at a multiple of `align`. Small alignments have a copy of the take to themselves, in which the
+// compiler knows the payload's place in its block.
 pub fn allocate(
     arena: &mut [u8],
     lists: &mut [u64],
@@ -81,36 +81,25 @@ pub fn allocate(
     ensures { λ r. ⌜ Allocates (now (arena .entry)) (now (lists .entry)) (now (live .entry)) size align (taken r)
         (now (arena .exit)) (now (lists .exit)) (now (live .exit)) ⌝ }
 {
+    if align <= HALF {
+        return take(arena, lists, live, size, align);
+    }
+    take(arena, lists, live, size, align)
+}
+
+// The same, for any alignment.
+fn take(arena: &mut [u8], lists: &mut [u64], live: &mut [u64], size: usize, align: usize) -> Taken
+    ensures { λ r. ⌜ Allocates (now (arena .entry)) (now (lists .entry)) (now (live .entry)) size align (taken r)
+        (now (arena .exit)) (now (lists .exit)) (now (live .exit)) ⌝ }
+{
     if !tables::long_enough(arena.len(), lists.len(), live.len()) {
         return Taken::Refused(TOO_SHORT);
     }
-    if !request::is_alignment(align) {
-        return Taken::Refused(OUT_OF_RANGE);
-    }
-    if align <= HALF {
-        return take_sized(arena, lists, live, size, 1);
-    }
-    take_sized(arena, lists, live, size, align / HALF)
-}
-
-// A payload of `size` bytes at a multiple of so many half grains. It is called with 1 written out for the common case, so that
-// the compiler makes a copy in which the payload's place in its block is a constant.
-fn take_sized(
-    arena: &mut [u8],
-    lists: &mut [u64],
-    live: &mut [u64],
-    size: usize,
-    multiple: usize,
-) -> Taken
-    requires { ⌜ Takable (now arena) (now lists) (now live) multiple ⌝ }
-    ensures { λ r. ⌜ TakesSized (now (arena .entry)) (now (lists .entry)) (now (live .entry)) size multiple (taken r)
-        (now (arena .exit)) (now (lists .exit)) (now (live .exit)) ⌝ }
-{
-    let asked = request::sized(size, multiple);
+    let asked = request::request_of(size, align);
     if !asked.ok {
         return Taken::Refused(OUT_OF_RANGE);
     }
-    let p = allocate::plan_take(arena, lists, asked.length, multiple);
+    let p = allocate::plan_take(arena, lists, asked.length, asked.multiple);
     if p.refusal != 0 {
         return Taken::Refused(p.refusal);
     }

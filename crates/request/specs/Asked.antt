@@ -1,19 +1,22 @@
 -- A request of n bytes at a multiple of a: when it is in range, and its numbers in half grains and grains. What is
 -- looked for, in bytes, is the number of rlsf: n + 16, and what the alignment has beyond 16, rounded up to 32.
-use Prim.Native.Nat.{ℕ, _+_, _-_, _*_, _^_, _<_}
+use Prim.Native.Nat.{ℕ, _+_, _-_, _*_, _^_, _≤_, _<_}
 use native.Mathlib.Omega.{arith}
-use mathlib.Core.Path.{_≡_, ap, _∙_}
+use mathlib.Core.Path.{_≡_, refl, ap, _∙_}
 use mathlib.Core.Bool.{Bool, true, false}
 use Rattle.align.specs.Align.{Power}
-use Rattle.definition.specs.Calls.{upTo, wanted}
+use Rattle.definition.specs.Calls.{upTo, grains, wanted}
 use Rattle.definition.specs.Units.{halves, multiple as multipleOf}
 use Rattle.request.specs.declared.Request.{Request}
 use Rattle.request.specs.Alignment.{Alignment, multiple-bytes}
-use Rattle.request.specs.Sized.{SizedIf}
 
 -- what is looked for, in bytes
 abbrev pub sought : ℕ → ℕ → ℕ
 sought n a = upTo 32 (n + 16 + (a - 16))
+
+-- 2 ^ 64 less 32: the last multiple of 32 in 64 bits
+abbrev pub end : ℕ
+end = 18446744073709551584
 
 -- the alignment is one, and what is looked for stays in 64 bits
 pub record InRange (n a : ℕ) : Type 0 where
@@ -47,17 +50,21 @@ wanted-bytes n a p = omega (arith, multiple-bytes a p)
 pub asked-no-alignment : (n a : ℕ) → (Alignment a → ⊥) → InRange n a → ⊥
 asked-no-alignment n a h r = h (r .alignment)
 
-module _ (n a m : ℕ) (e : m ≡ multipleOf 16 a) where
-  -- what is looked for at an alignment is what is looked for at its multiple
-  pub room-sought : Power a → upTo 32 (n + 16 * m) ≡ sought n a
-  room-sought p = omega (arith, multiple-bytes a p, e)
+-- too long, by the last multiple of 32 in 64 bits
+pub asked-too-long : (n a m : ℕ) → m ≡ multipleOf 16 a → end - 16 * m < n → InRange n a → ⊥
+asked-too-long n a m e h r = omega (arith, multiple-bytes a (r .alignment .power), r .fits)
 
-  -- a request at an alignment is one at its multiple
-  pub asked-sized : (r : Request) (b : Bool) → Alignment a → SizedIf n m r b → AskedIf n a r b
-  asked-sized r true l s = record {
-    range = record { alignment = l; fits = omega (arith, room-sought (l .power), s .room) };
-    length = s .length;
-    multiple = s .multiple ∙ e;
-    wanted = s .wanted ∙ ap (wanted (halves 16 n)) e;
-  }
-  asked-sized r false l s = λ i. s (omega (arith, room-sought (l .power), i .fits))
+-- no sum leaves 64 bits
+pub asked-small : (a m : ℕ) → Alignment a → m ≡ multipleOf 16 a → 16 * m ≤ 4096
+asked-small a m l e = omega (arith, l .most)
+
+-- in range, with its numbers
+pub asked-numbers :
+    (n a m w : ℕ) → Alignment a → m ≡ multipleOf 16 a → n ≤ end - 16 * m → w ≡ grains (halves 16 n + m)
+    → Numbers n a (record { ok = true; length = halves 16 n; multiple = m; wanted = w })
+asked-numbers n a m w l e h g = record {
+  range = record { alignment = l; fits = omega (arith, multiple-bytes a (l .power), l .most) };
+  length = refl;
+  multiple = e;
+  wanted = g ∙ ap (λ (z : ℕ). grains (halves 16 n + z)) e;
+}

@@ -1,6 +1,5 @@
 -- Requests.
 pub mod Alignment
-pub mod Sized
 pub mod Asked
 pub mod Range
 pub mod Placed

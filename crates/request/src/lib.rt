@@ -1,13 +1,12 @@
 // Requests: what a caller gives in bytes, turned into half grains and grains, or refused where it is out of range.
 // An alignment is a power of two, so no function divides by one: what is beyond a multiple is cut out by a mask.
 ghost use mathlib.Core.Path.{_≡_};
-ghost use Prim.Native.Nat.{_+_, _-_, _*_, _≤_, _<_, _^_};
+ghost use Prim.Native.Nat.{_+_, _-_, _*_, _<_, _^_};
 ghost use Rattle.choice.specs.Says.{Says};
 ghost use Rattle.align.specs.Align.{Power};
 ghost use Rattle.definition.specs.Units.{multiple as multipleOf, firstGrain, wholeGrains};
 ghost use Rattle.definition.specs.Calls.{grains, place, keeps};
 ghost use Rattle.request.specs.Alignment.{Alignment};
-ghost use Rattle.request.specs.Sized.{Sized};
 ghost use Rattle.request.specs.Asked.{Asked};
 ghost use Rattle.request.specs.Returned.{Returned};
 
@@ -79,14 +78,7 @@ pub fn request_of(size: usize, align: usize) -> Request
             wanted: 0,
         };
     }
-    sized(size, multiple_of(align))
-}
-
-// A request of size bytes at a multiple in half grains.
-pub fn sized(size: usize, multiple: usize) -> Request
-    requires { ⌜ multiple ≤ 256 ⌝ }
-    ensures { λ r. ⌜ Sized size multiple r ⌝ }
-{
+    let multiple = multiple_of(align);
     if END - HALF * multiple < size {
         return Request {
             ok: false,

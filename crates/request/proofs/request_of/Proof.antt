@@ -1,11 +1,11 @@
--- `request::request_of` meets its contract: past the test there is an alignment (`known`), and the request at its multiple
--- is the one asked for. Assumes nothing.
+-- `request::request_of` meets its contract, one law for each way out. Past the first test there is an alignment (`known`),
+-- past the second no sum leaves 64 bits. Assumes nothing.
 use borrow.Author.Needs.{needs}
 use borrow.Author.Tests.{not-true, not-false}
 use native.Mathlib.Omega.{arith}
 use Rattle.choice.specs.Says.{says-yes, says-no}
-use Rattle.request.specs.Alignment.{Alignment, multiple-most}
-use Rattle.request.specs.Asked.{asked-no-alignment, asked-sized}
+use Rattle.request.specs.Alignment.{Alignment}
+use Rattle.request.specs.Asked.{asked-no-alignment, asked-too-long, asked-small, asked-numbers}
 use Rattle.request.proofs.request_of.Statement.{statement}
 use Rattle.request.proofs.request_of.Tie as tie
 
@@ -27,14 +27,49 @@ returns c =
 multiple-of-requires : tie.Need-multiple-of-requires
 multiple-of-requires c κs = search needs
 
-sized-requires : tie.Need-sized-requires
-sized-requires c κs = omega (arith, multiple-most (c .before .before .before .args .align) (known (c .before) .most), c .multiple-of .ensures)
+mul-if2 : tie.Need-mul-if2
+mul-if2 c = search needs
+
+sub-if2 : tie.Need-sub-if2
+sub-if2 c = omega (arith, asked-small (c .before .before .before .args .align) (c .multiple-of .result) (known (c .before)) (c .multiple-of .ensures))
 
 returns-2 : tie.Need-returns-2
 returns-2 c =
     let m = c .before in
     let s = m .before .before .before .args in
-    asked-sized (s .size) (s .align) (m .multiple-of .result) (m .multiple-of .ensures) (c .sized .result) (c .sized .result .ok) (known (m .before)) (c .sized .ensures)
+    asked-too-long (s .size) (s .align) (m .multiple-of .result) (m .multiple-of .ensures) (c .if2 .taken)
+
+sub-length : tie.Need-sub-length
+sub-length c = search needs
+
+add-length : tie.Need-add-length
+add-length c = search needs
+
+add-grains-of : tie.Need-add-grains-of
+add-grains-of c = search needs
+
+grains-of-requires : tie.Need-grains-of-requires
+grains-of-requires c κs = search needs
+
+returns-3 : tie.Need-returns-3
+returns-3 c =
+    let m = c .before .before in
+    let s = m .before .before .before .args in
+    asked-numbers (s .size) (s .align) (m .multiple-of .result) (c .grains-of .result) (known (m .before)) (m .multiple-of .ensures)
+    (c .before .if2 .left) (c .grains-of .ensures)
 
 pub request-of-spec : {M : Type 1} → statement M
-request-of-spec = tie.close (tie.spec is-alignment-requires returns multiple-of-requires sized-requires returns-2)
+request-of-spec =
+    tie.close
+    (tie.spec
+    is-alignment-requires
+    returns
+    multiple-of-requires
+    mul-if2
+    sub-if2
+    returns-2
+    sub-length
+    add-length
+    add-grains-of
+    grains-of-requires
+    returns-3)
