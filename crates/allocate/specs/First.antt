@@ -7,18 +7,17 @@ use native.Mathlib.Omega.{arith}
 use mathlib.Core.Path.{_≡_, refl, ap, sym, _∙_}
 use mathlib.Core.Bool.{Bool, true, false}
 use mathlib.Core.List.{List}
-use mathlib.Core.Logic.{_⊎_, inl, inr, ⊎-elim}
 use lib.ListN.{length}
-use Rattle.choice.specs.Choice.{eq-case, le?, same?}
 use Rattle.choice.specs.Says.{Says}
 use Rattle.word.specs.Word.{wordAt}
 use Rattle.table.specs.Table.{entry}
 use Rattle.bits.specs.Map.{mapWords, lists}
 use Rattle.class.specs.Class.{listOf}
 use Rattle.script.specs.Memory.{Memory, Size, Before, Next, Prev, none, root}
-use Rattle.script.specs.Script.{Script, Result, ok, no, run, _>>=_, _>>_, get, mustEq, goes, halts, reads, runs-stop, gives-done, gives-eq, gives-le, halts-eq, halts-le}
+use Rattle.script.specs.Script.{Script, Result, no, run, _>>=_, _>>_, get, mustEq, goes, halts, alike, reads, runs-stop, gives-eq, gives-le, halts-eq, halts-le}
 use Rattle.sound.specs.Checks.{Word, isFree, isUsed, isLast, isBad, wordOf, asFree, asBusy, mustGrain, mustLead, mustBack, mustBusy, mustFree}
 use Rattle.sound.specs.Plans.{Plan}
+use Rattle.sound.specs.Refused.{stops-then, stops-back}
 use Rattle.slices.specs.Decode.{grains, wrongLink, Inside}
 use Rattle.slices.specs.Arena.{sizeAt, linkAt, link-in, size-inside}
 use Rattle.slices.specs.Slices.{memory-size, memory-before}
@@ -99,33 +98,14 @@ pub record SeenFirst (a l : List ℕ) (k : ℕ) (r : First) : Type 0 where
 
 -- ---- the check of what is next, before or behind the others
 
--- it passes, or refuses with 5
-back-either : (m : Memory) (n y x : ℕ) → (run m (mustBack n Prev x y) ≡ ok (tt {0})) ⊎ (run m (mustBack n Prev x y) ≡ no 5)
-back-either m n y x = eq-case (λ (t : Script (Unit {0})). (run m t ≡ ok (tt {0})) ⊎ (run m t ≡ no 5)) x none _ _
-    (λ _. inl (gives-done m (tt {0})))
-    (λ _. ⊎-elim
-    (λ (h : n ≤ x). inr (halts m (mustGrain n x) _ (halts-le m 5 (suc x) n (omega arith))))
-    (λ (h : x < n).
-    let g = goes m (mustGrain n x) (λ _. mustLead Prev x y) (gives-le m 5 (suc x) n (omega arith)) ∙ reads m Prev x _ refl in ⊎-elim
-    (λ (e : m Prev x ≡ y). inl (g ∙ gives-eq m 5 (m Prev x) y e))
-    (λ (e : m Prev x ≡ y → ⊥). inr (g ∙ halts-eq m 5 (m Prev x) y e))
-    (same? (m Prev x) y))
-    (le? n x))
-
 module _ (m : Memory) (n y x : ℕ) (f : Script Plan) where
   -- what is refused behind it is refused
   pub back-refused : run m f ≡ no 5 → run m (mustBack n Prev x y >> f) ≡ no 5
-  back-refused h = ⊎-elim
-      (λ (e : run m (mustBack n Prev x y) ≡ ok (tt {0})). goes m (mustBack n Prev x y) _ e ∙ h)
-      (λ (e : run m (mustBack n Prev x y) ≡ no 5). halts m (mustBack n Prev x y) _ e)
-      (back-either m n y x)
+  back-refused h = stops-then m 5 (mustBack n Prev x y) (λ _. f) (stops-back (λ (r : ℕ). r ≡ 5) refl n Prev x y) (λ _. h)
 
   -- what has one answer behind it has one with it
   back-same : (g : Script Plan) → run m f ≡ run m g → run m (mustBack n Prev x y >> f) ≡ run m (mustBack n Prev x y >> g)
-  back-same g h = ⊎-elim
-      (λ (e : run m (mustBack n Prev x y) ≡ ok (tt {0})). goes m (mustBack n Prev x y) _ e ∙ h ∙ sym (goes m (mustBack n Prev x y) _ e))
-      (λ (e : run m (mustBack n Prev x y) ≡ no 5). halts m (mustBack n Prev x y) _ e ∙ sym (halts m (mustBack n Prev x y) _ e))
-      (back-either m n y x)
+  back-same g h = alike m (mustBack n Prev x y) (λ _. f) (λ _. g) (λ _. h)
 
 -- ---- the parts, on any memory
 

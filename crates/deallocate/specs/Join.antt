@@ -12,6 +12,7 @@ use Rattle.script.specs.Script.{done, ok, no, run, _>>=_, goes, halts, gives-do
 use Rattle.sound.specs.Checks.{Owner, Beside, mustList, seeHead, seeBehind, seeBefore, seeOwner}
 use Rattle.sound.specs.Links.{pushWrites}
 use Rattle.sound.specs.Plans.{roomOf, bothLeave, freeWrites, joinScript, giveBackScript}
+use Rattle.sound.specs.Refused.{stops-then, stops-behind}
 use Rattle.slices.specs.Decode.{grains}
 use Rattle.free_list.specs.Lent.{held, classes, link}
 use Rattle.free_list.specs.Answers.{answer, unless}
@@ -66,6 +67,12 @@ module _ (a l v t : List ℕ) (q x s : ℕ) (e : BesideAnswer) (p : SeenBehind a
   merge-seen o b i =
       ap (λ (b : Beside). run (held a l v t) (beforeScript (grains 8 a) q x s b)) i
       ∙ sym (goes (held a l v t) (seeBehind (grains 8 a) classes (x + s)) _ (sym (p .answer v t) ∙ ap (λ (b : Bool). answer b (seenOf a e)) o))
+
+-- what was seen before doesn't agree: so the script refuses, which sees what stands behind first
+pub merge-cut : (a l v t : List ℕ) (q x s : ℕ) (f : BesideAnswer) → SeenBefore a l x f → f .ok ≡ false → no 5 ≡ run (held a l v t) (mergeScript (grains 8 a) q x s)
+merge-cut a l v t q x s f d c = sym (stops-then (held a l v t) 5 (seeBehind (grains 8 a) classes (x + s)) (beforeScript (grains 8 a) q x s)
+    (stops-behind (λ (r : ℕ). r ≡ 5) refl (grains 8 a) classes (x + s))
+    (λ b. halts (held a l v t) (seeBefore (grains 8 a) classes x) _ (sym (d .answer v t) ∙ ap (λ (o : Bool). answer o (seenOf a f)) c)))
 
 -- e stands behind, and f was seen before
 module _ (a l v t : List ℕ) (q x s : ℕ) (e : Neighbour) (b : Behind a x s e) (f : BesideAnswer) (d : SeenBefore a l x f)

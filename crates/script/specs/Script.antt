@@ -91,6 +91,14 @@ halts m (first n x k) f h = halts m (k (firstSet (m Mark) n x)) f h
 halts m (done x) f h = cc
 halts m (stop r) f h = cc
 
+-- what answers alike does so behind any step
+pub alike : {A B : Type 0} (m : Memory) (s : Script A) (f h : A → Script B) → ((a : A) → run m (f a) ≡ run m (h a)) → run m (s >>= f) ≡ run m (s >>= h)
+unfolding run
+alike m (read g x k) f h e = alike m (k (m g x)) f h e
+alike m (first n x k) f h e = alike m (k (firstSet (m Mark) n x)) f h e
+alike m (done a) f h e = e a
+alike m (stop r) f h e = refl
+
 pub gives-bind : {A B : Type 0} (m : Memory) (s : Script A) (f : A → Script B) {a : A} {b : B} → Gives m s a → Gives m (f a) b → Gives m (s >>= f) b
 gives-bind m s f h g = goes m s f h ∙ g
 

@@ -37,6 +37,15 @@ contrary {A} P Q m s h q n = go (run m s) refl
     go (ok a) e = absurd (n a (q a e))
     go (no r) e = (r, e, stops-with P m s h e)
 
+-- where it refuses with one number alone, what refuses behind it with that number, whatever it answers, may as well come
+-- before it
+pub stops-then : {A B : Type 0} (m : Memory) (r : ℕ) (s : Script A) (f : A → Script B) → Stops (λ (q : ℕ). q ≡ r) s → ((a : A) → run m (f a) ≡ no r) → run m (s >>= f) ≡ no r
+unfolding run
+stops-then m r (read g x k) f h e = stops-then m r (k (m g x)) f (h (m g x)) e
+stops-then m r (first n x k) f h e = stops-then m r (k (firstSet (m Mark) n x)) f (h (firstSet (m Mark) n x)) e
+stops-then m r (done a) f h e = e a
+stops-then m r (stop q) f h e = ap no h
+
 module _ (P : ℕ → Type 0) where
   -- one step after another, and the smallest checks
   pub stops-bind : {A B : Type 0} (s : Script A) (f : A → Script B) → Stops P s → ((a : A) → Stops P (f a)) → Stops P (s >>= f)

@@ -7,8 +7,7 @@ use Rattle.header.specs.Turned.{grains-few}
 use Rattle.neighbours.specs.Leaving.{firstOf, behindOf, behind-nobody}
 use Rattle.neighbours.specs.Within.{behind-seen, behind-none}
 use Rattle.deallocate.specs.Shown.{shown-damaged, damaged-unable}
-use Rattle.deallocate.specs.Join.{merge-out, merge-seen}
-use Rattle.deallocate.specs.Order.{merge-cut}
+use Rattle.deallocate.specs.Join.{merge-out, merge-seen, merge-cut}
 use borrow.Author.Needs.{needs}
 use Rattle.deallocate.proofs.plan_merge.Statement.{statement}
 use Rattle.deallocate.proofs.plan_merge.Tie as tie
