@@ -6,9 +6,9 @@ use mathlib.Core.List.{List}
 use mathlib.Core.Logic.{_⊎_, inl, inr}
 use lib.ListN.{length}
 use Rattle.choice.specs.Choice.{eq-yes, eq-no, eq-case, le-case}
-use Rattle.word.specs.Word.{putAt, put-at-length}
+use Rattle.word.specs.Word.{wordAt, putAt, put-at-length}
 use Rattle.bits.specs.Map.{mapWords, lists}
-use Rattle.script.specs.Memory.{Memory, none}
+use Rattle.script.specs.Memory.{Memory, Next, Prev, none}
 use Rattle.slices.specs.Decode.{linkOf, linkWord, grains, topOf, grains-keep}
 use Rattle.slices.specs.Slices.{Slices, memoryOf}
 use Rattle.header.specs.Turned.{turned, grains-few, turned-in, turned-out}
@@ -45,6 +45,10 @@ link a x = linkOf 32 (grains 8 a) (topOf 8) x
 -- it is none, or leads to a grain
 abbrev pub Leads : List ℕ → ℕ → Type 0
 Leads a x = (x ≡ noLink) ⊎ (turned x < grains 8 a)
+
+-- the words of y, as a free block, are the links x and p
+abbrev pub Holds : List ℕ → ℕ → ℕ → ℕ → Type 0
+Holds a y x p = (wordAt 8 a (4 * y + Next) ≡ x) × (wordAt 8 a (4 * y + Prev) ≡ p)
 
 -- a link that is not none leads to a grain
 pub leads-grain : {x n : ℕ} → (x ≡ noLink) ⊎ (turned x < n) → (x ≡ noLink → ⊥) → turned x < n

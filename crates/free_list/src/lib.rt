@@ -8,7 +8,7 @@ ghost use Rattle.bits.specs.Map.{mapWords};
 ghost use Rattle.word.specs.Word.{putAt};
 ghost use Rattle.sound.specs.Links.{unlinkWrites, pushWrites};
 ghost use Rattle.slices.specs.Decode.{grains};
-ghost use Rattle.free_list.specs.Lent.{noLink, link, Leads, Room};
+ghost use Rattle.free_list.specs.Lent.{noLink, link, Leads, Room, Holds};
 ghost use Rattle.free_list.specs.Back.{Back};
 ghost use Rattle.free_list.specs.Place.{Placed};
 ghost use Rattle.free_list.specs.Seen.{SeenEntry, SeenHead};
@@ -37,7 +37,7 @@ pub struct Head {
 // Block y of list k, with what is behind it and before it.
 pub fn see_entry(a: &[u8], lists: &[u64], k: usize, y: usize) -> Entry
     requires { ⌜ (y < grains 8 (now a)) × Room k (now lists) ⌝ }
-    ensures { λ r. ⌜ SeenEntry (now (a .entry)) (now (lists .entry)) k y r ⌝ }
+    ensures { λ r. ⌜ SeenEntry (now (a .entry)) (now (lists .entry)) k y r × Holds (now (a .entry)) y (r .next) (r .prev) ⌝ }
 {
     let next = header::field(a, y, NEXT);
     let prev = header::field(a, y, PREV);
@@ -132,6 +132,16 @@ pub fn unlink(a: &mut [u8], lists: &mut [u64], k: usize, x: u64, p: u64)
 {
     join_next(a, lists, k, x, p);
     join_prev(a, lists, k, x, p);
+}
+
+// The same, where that block is y.
+pub fn unlink_at(a: &mut [u8], lists: &mut [u64], k: usize, x: u64, p: u64, y: usize)
+    requires { ⌜ Room k (now lists) × Leads (now a) x × Leads (now a) p × (y < grains 8 (now a)) × Holds (now a) y x p ⌝ }
+    ensures { λ r. ⌜ Written (now (a .entry)) (now (lists .entry))
+        (unlinkWrites k (link (now (a .entry)) x) (link (now (a .entry)) p))
+        (now (a .exit)) (now (lists .exit)) ⌝ }
+{
+    unlink(a, lists, k, x, p);
 }
 
 // What is before the block, p or the head of list k, leads to x.

@@ -30,7 +30,7 @@ returns-2 c =
     let k = c .before .before in
     let s = k .before .before .before in record {
       answer = λ v u. listed-entry (s .args .a .now) (s .args .lists .now) v u (s .args .t) (s .args .y) (k .map-floor .result) (k .map-floor .ensures) (c .before .if1 .left)
-          (s .pre .2) (c .see-entry .result) (c .see-entry .ensures v u);
+          (s .pre .2) (c .see-entry .result) (c .see-entry .ensures .0 v u);
       list = λ _. k .map-floor .ensures;
     }
 
