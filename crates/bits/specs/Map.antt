@@ -2,14 +2,15 @@
 -- the list heads. Its users know it by `mapBit`, `markBit`, `unmarkBit` and their laws alone. How many words it has, and
 -- how they hang together, is said in this file and in the code of this crate, and nowhere else: more lists, or a
 -- summary above the words, would change what the shut names stand for and not the laws.
-use Prim.Native.Nat.{ℕ, _*_, _/_, _≤_, _<_}
+use Prim.Native.Nat.{ℕ, _*_, _/_, _%_, _≤_, _<_}
 use native.Mathlib.Omega.{arith}
 use mathlib.Core.Path.{_≡_, ap, sym, _∙_}
 use mathlib.Core.List.{List}
 use mathlib.Core.Logic.{⊎-elim}
 use lib.ListN.{length}
-use Rattle.choice.specs.Choice.{ifLe, le-yes, le-no, le?, le-case, same?, upd, upd-same, upd-other}
-use Rattle.table.specs.Table.{entry, enter}
+use Rattle.choice.specs.Choice.{ifEq, eq-yes, eq-no, ifLe, le-yes, le-no, le?, le-case, same?, upd, upd-same, upd-other}
+use Rattle.table.specs.Table.{entry, enter, enter-own}
+use Rattle.bits.specs.Bit.{clearBit}
 use Rattle.bits.specs.TableBit.{
   tableBit,
   setTableBit,
@@ -45,6 +46,14 @@ markBit t k = setTableBit t k
 -- the table with list k unmarked
 unfoldable pub unmarkBit : List ℕ → ℕ → List ℕ
 unmarkBit t k = clearTableBit t k
+
+-- the word m of list k, stored with its bit cleared where w is n, or as it is
+pub unmark-where : (t : List ℕ) (k w n m v : ℕ) → m ≡ entry t (k / 64) → v ≡ ifEq w n (clearBit m (k % 64)) m → enter t (k / 64) v ≡ ifEq w n (unmarkBit t k) t
+unfolding unmarkBit clearTableBit
+unmark-where t k w n m v e q = ⊎-elim
+    (λ (h : w ≡ n). ap (enter t (k / 64)) (q ∙ eq-yes w n _ _ h ∙ ap (λ (z : ℕ). clearBit z (k % 64)) e) ∙ sym (eq-yes w n _ _ h))
+    (λ (h : w ≡ n → ⊥). ap (enter t (k / 64)) (q ∙ eq-no w n _ _ h ∙ e) ∙ enter-own t (k / 64) ∙ sym (eq-no w n _ _ h))
+    (same? w n)
 
 -- a list is marked or not
 pub map-bit-lt : (t : List ℕ) (k : ℕ) → mapBit t k < 2

@@ -3,6 +3,7 @@
 ghost use mathlib.Core.Path.{_≡_};
 ghost use Prim.Native.Nat.{_+_, _-_, _*_, _≤_, _<_};
 ghost use lib.ListN.{length};
+ghost use Rattle.choice.specs.Choice.{ifEq};
 ghost use Rattle.choice.specs.Says.{Says};
 ghost use Rattle.bits.specs.Bit.{bit, setBit, clearBit};
 ghost use Rattle.bits.specs.First.{firstSet};
@@ -115,6 +116,26 @@ pub fn unmark(t: &mut [u64], k: usize)
     ensures { λ r. ⌜ now (t .exit) ≡ unmarkBit (now (t .entry)) k ⌝ }
 {
     clear_table_bit(t, k);
+}
+
+// List k unmarked where w is n. Its word is stored in either case, so that no jump hangs on it.
+pub fn unmark_where(t: &mut [u64], k: usize, w: u64, n: u64)
+    requires { ⌜ (mapWords ≤ length (now t)) × (k < lists) ⌝ }
+    ensures { λ r. ⌜ now (t .exit) ≡ ifEq w n (unmarkBit (now (t .entry)) k) (now (t .entry)) ⌝ }
+{
+    let m = table::fetch(t, k / BITS);
+    table::store(t, k / BITS, without_where(m, k % BITS, w, n));
+}
+
+// The word with bit i cleared where w is n.
+fn without_where(m: u64, i: usize, w: u64, n: u64) -> u64
+    requires { ⌜ i < 64 ⌝ }
+    ensures { λ r. ⌜ r ≡ ifEq w n (clearBit m i) m ⌝ }
+{
+    if w == n {
+        return without_bit(m, i);
+    }
+    m
 }
 
 // The first marked list at or after k; the number of lists where there is none.

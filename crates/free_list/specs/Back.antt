@@ -1,14 +1,15 @@
 -- A link leads back: it is none, or leads to a grain whose field f leads to y. The check `mustBack` of any memory that
 -- stands in the arena says the same.
-use Prim.Native.Nat.{ℕ, suc, _≤_, _<_}
+use Prim.Native.Nat.{ℕ, suc, _+_, _*_, _≤_, _<_}
 use native.Mathlib.Omega.{arith}
 use mathlib.Core.Path.{_≡_, refl, ap, sym, _∙_}
 use mathlib.Core.Bool.{Bool, true, false}
 use mathlib.Core.List.{List}
 use mathlib.Core.Logic.{_⊎_, inl, inr, ⊎-elim}
 use lib.ListN.{length}
-use Rattle.choice.specs.Choice.{eq-yes, eq-no, le?}
+use Rattle.choice.specs.Choice.{ifEq, eq-yes, eq-no, le?, same?}
 use Rattle.choice.specs.Says.{Says}
+use Rattle.word.specs.Word.{wordAt}
 use Rattle.script.specs.Memory.{Memory, Next, Prev, none}
 use Rattle.script.specs.Script.{ok, no, run, _>>_, goes, halts, reads, gives-done, gives-eq, gives-le, halts-eq, halts-le}
 use Rattle.sound.specs.Checks.{mustGrain, mustLead, mustBack}
@@ -17,6 +18,7 @@ use Rattle.slices.specs.Arena.{linkAt, link-in}
 use Rattle.slices.specs.Heads.{next-grain}
 use Rattle.slices.specs.Slices.{memory-next, memory-prev}
 use Rattle.header.specs.Turned.{turned}
+use Rattle.header.specs.Told.{leads-yes, leads-no}
 use Rattle.free_list.specs.Lent.{lent, held, noLink, link, below-none, link-none, link-some, link-grain, link-past}
 use Rattle.free_list.specs.Answers.{told}
 
@@ -26,13 +28,35 @@ Back a f x y = (x ≡ noLink) ⊎ ((turned x < grains 8 a) × (linkAt 8 a f 0 (t
 -- ---- as the code finds it
 
 module _ (a : List ℕ) (f x y g : ℕ) (ne : x ≡ noLink → ⊥) (e : g ≡ turned x) where
-  pub back-outside : grains 8 a ≤ g → Back a f x y → ⊥
+  back-outside : grains 8 a ≤ g → Back a f x y → ⊥
   back-outside h (inl q) = ne q
   back-outside h (inr q) = omega (arith, q .0)
 
-  pub back-says : (r : Bool) → g < grains 8 a → Says (linkAt 8 a f 0 g ≡ y) r → Says (Back a f x y) r
+  back-says : (r : Bool) → g < grains 8 a → Says (linkAt 8 a f 0 g ≡ y) r → Says (Back a f x y) r
   back-says true i h = inr (omega arith, rw e at h)
   back-says false i h = λ b. ⊎-elim (λ (q : x ≡ noLink). ne q) (λ (q : (turned x < grains 8 a) × (linkAt 8 a f 0 (turned x) ≡ y)). h (rw e (q .1))) b
+
+-- y itself stands for what none would lead to
+module _ (a : List ℕ) (f x y g : ℕ) (i : y < grains 8 a) (e : g ≡ ifEq x noLink y (turned x)) where
+  pub back-far : grains 8 a ≤ g → Back a f x y → ⊥
+  back-far h = ⊎-elim
+      (λ (z : x ≡ noLink). absurd (omega (arith, e ∙ eq-yes x noLink y (turned x) z)))
+      (λ (n : x ≡ noLink → ⊥). back-outside a f x y g n (e ∙ eq-no x noLink y (turned x) n) h)
+      (same? x noLink)
+
+  -- its word v is the one that is due, d: that of y, o, where x is none, and else y's own place
+  module _ (s : length a < 18446744073709551616) (h : g < grains 8 a) (o v d : ℕ) (own : o ≡ wordAt 8 a (4 * y + f)) (there : v ≡ wordAt 8 a (4 * g + f)) (due : d ≡ ifEq x noLink o (32 * y)) where
+    pub back-due : v ≡ d → Back a f x y
+    back-due q = ⊎-elim
+        (λ (z : x ≡ noLink). inl z)
+        (λ (n : x ≡ noLink → ⊥). back-says a f x y g n (e ∙ eq-no x noLink y (turned x) n) true h (leads-yes a g f v y 0 h i s there (q ∙ due ∙ eq-no x noLink o (32 * y) n)))
+        (same? x noLink)
+
+    pub back-undue : (v ≡ d → ⊥) → Back a f x y → ⊥
+    back-undue q = ⊎-elim
+        (λ (z : x ≡ noLink). absurd (q (there ∙ ap (λ (j : ℕ). wordAt 8 a (4 * j + f)) (e ∙ eq-yes x noLink y (turned x) z) ∙ sym own ∙ sym (due ∙ eq-yes x noLink o (32 * y) z))))
+        (λ (n : x ≡ noLink → ⊥). back-says a f x y g n (e ∙ eq-no x noLink y (turned x) n) false h (leads-no a g f v y 0 h i s there (λ w. q (w ∙ sym (due ∙ eq-no x noLink o (32 * y) n)))))
+        (same? x noLink)
 
 -- ---- the memory of the slices
 

@@ -1,6 +1,7 @@
 -- The free lists in the lent slices: the slices, and links as words (Lent), what the code answers (Answers), what the
 -- checks of an entry and of a head answer (Seen), and what the writes of unlinking and pushing store (Written).
 pub mod Lent
+pub mod Led
 pub mod Answers
 pub mod Back
 pub mod Place

@@ -1,12 +1,13 @@
 -- The writes of unlinking a block and of pushing one, as the code makes them: in parts, each with its own choice.
 use Prim.Native.Nat.{ℕ, _+_, _*_, _<_}
 use native.Mathlib.Omega.{arith}
-use mathlib.Core.Path.{_≡_, refl, ap, sym, _∙_}
+use mathlib.Core.Path.{_≡_, refl, ap, sym, _∙_, subst}
 use mathlib.Core.List.{List, [], _∷_, _++_}
+use mathlib.Core.Logic.{⊎-elim}
 use lib.ListN.{length}
-use Rattle.choice.specs.Choice.{ifEq, eq-yes, eq-no, eq-case}
+use Rattle.choice.specs.Choice.{ifEq, eq-yes, eq-no, eq-case, same?}
 use Rattle.word.specs.Word.{putAt}
-use Rattle.table.specs.Table.{enter}
+use Rattle.table.specs.Table.{entry, enter, enter-own}
 use Rattle.bits.specs.Map.{mapWords, markBit, unmarkBit}
 use Rattle.script.specs.Memory.{Next, Prev, Mark, none, root, Write, _at_≔_}
 use Rattle.sound.specs.Links.{node, unlinkWrites, pushWrites}
@@ -53,6 +54,38 @@ module _ (a l : List ℕ) (k x p : ℕ) (s : length a < 18446744073709551616) (f
   -- the mark, where it was the only one
   pub prev-only : (m : List ℕ) → x ≡ noLink → p ≡ noLink → m ≡ unmarkBit l k → Written a l (joinPrev k (link a x) (link a p)) a m
   prev-only m e d q = written-as (eq-yes (link a x) none _ _ (link-none a x s e) ∙ eq-yes (link a p) none _ _ (link-none a p s d)) (wrote-unmark a l m k q)
+
+  -- where nothing hangs on whether p is none: the head's word is stored in either case
+  pub next-led : (b m : List ℕ) (h : ℕ) → b ≡ ifEq p noLink a (putAt 8 a (4 * turned p + Next) x) → h ≡ ifEq p noLink x (entry l (mapWords + k)) → m ≡ enter l (mapWords + k) h
+      → Written a l (joinNext k (link a x) (link a p)) b m
+  next-led b m h q c d = ⊎-elim
+      (λ (e : p ≡ noLink).
+      subst (λ (w : List ℕ). Written a l (joinNext k (link a x) (link a p)) w m) (sym (q ∙ eq-yes p noLink _ _ e))
+      (next-head m e (d ∙ ap (enter l (mapWords + k)) (c ∙ eq-yes p noLink _ _ e))))
+      (λ (n : p ≡ noLink → ⊥).
+      subst (λ (w : List ℕ). Written a l (joinNext k (link a x) (link a p)) b w) (sym (d ∙ ap (enter l (mapWords + k)) (c ∙ eq-no p noLink _ _ n) ∙ enter-own l (mapWords + k)))
+      (next-grain b (turned p) n refl (q ∙ eq-no p noLink _ _ n)))
+      (same? p noLink)
+
+  -- nor on whether x is: w is none where both are
+  pub prev-led : (b m : List ℕ) (w : ℕ) → b ≡ ifEq x noLink a (putAt 8 a (4 * turned x + Prev) p) → w ≡ ifEq p noLink x p → m ≡ ifEq w noLink (unmarkBit l k) l
+      → Written a l (joinPrev k (link a x) (link a p)) b m
+  prev-led b m w q c d = ⊎-elim
+      (λ (e : x ≡ noLink). subst (λ (z : List ℕ). Written a l (joinPrev k (link a x) (link a p)) z m) (sym (q ∙ eq-yes x noLink _ _ e)) (last e))
+      (λ (n : x ≡ noLink → ⊥).
+      subst (λ (z : List ℕ). Written a l (joinPrev k (link a x) (link a p)) b z) (sym (d ∙ eq-no w noLink _ _ (λ r. n (⊎-elim
+      (λ (y : p ≡ noLink). sym (c ∙ eq-yes p noLink x p y) ∙ r)
+      (λ (y : p ≡ noLink → ⊥). absurd (y (sym (c ∙ eq-no p noLink x p y) ∙ r)))
+      (same? p noLink)))))
+      (prev-grain b (turned x) n refl (q ∙ eq-no x noLink _ _ n)))
+      (same? x noLink)
+    where
+      last : x ≡ noLink → Written a l (joinPrev k (link a x) (link a p)) a m
+      last e = ⊎-elim
+          (λ (y : p ≡ noLink). prev-only m e y (d ∙ eq-yes w noLink _ _ (c ∙ eq-yes p noLink x p y ∙ e)))
+          (λ (n : p ≡ noLink → ⊥).
+          subst (λ (z : List ℕ). Written a l (joinPrev k (link a x) (link a p)) a z) (sym (d ∙ eq-no w noLink _ _ (λ r. n (sym (c ∙ eq-no p noLink x p n) ∙ r)))) (prev-last e n))
+          (same? p noLink)
 
 -- both
 pub unlinked : (k x p : ℕ) {a l b m c o : List ℕ} → Written a l (joinNext k (link a x) (link a p)) b m → Written b m (joinPrev k (link b x) (link b p)) c o

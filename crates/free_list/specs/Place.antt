@@ -2,20 +2,20 @@
 -- one return of the code, against the check `seePrev`.
 use Prim.Native.Nat.{ℕ, suc, _*_, _≤_, _<_}
 use native.Mathlib.Omega.{arith}
-use mathlib.Core.Path.{_≡_, ap, sym, _∙_}
-use mathlib.Core.Bool.{Bool, false}
+use mathlib.Core.Path.{_≡_, refl, ap, sym, _∙_, subst}
+use mathlib.Core.Bool.{Bool, true, false}
 use mathlib.Core.List.{List}
-use mathlib.Core.Logic.{⊎-elim}
+use mathlib.Core.Logic.{inl, ⊎-elim}
 use lib.ListN.{length}
 use lib.Dec.{eqb}
 use borrow.Author.Tests.{eq-eqb, ne-eqb}
-use Rattle.choice.specs.Choice.{eq-yes, eq-no, same?}
+use Rattle.choice.specs.Choice.{ifEq, eq-yes, eq-no, same?}
 use Rattle.choice.specs.Says.{Says}
 use Rattle.script.specs.Memory.{Memory, Next, none}
 use Rattle.script.specs.Script.{Script, mustDiffer, ok, no, run, _>>_, goes, halts, gives-eq, gives-le, gives-differ, halts-eq, halts-le, halts-differ}
 use Rattle.sound.specs.Checks.{mustGrain, mustLead, seePrev}
 use Rattle.slices.specs.Decode.{grains}
-use Rattle.header.specs.Turned.{turned, grains-few}
+use Rattle.header.specs.Turned.{turned, grains-few, turned-is}
 use Rattle.header.specs.Told.{link-leads, link-only}
 use Rattle.free_list.specs.Lent.{held, noLink, link, link-none, link-some, link-grain, link-past}
 use Rattle.free_list.specs.Answers.{told}
@@ -42,7 +42,7 @@ module _ (a : List ℕ) (h y p : ℕ) (s : length a < 18446744073709551616) (i :
   head-not e = link-only (grains 8 a) h y i (grains-few a s) e
 
   -- nothing is before y
-  pub placed-first : p ≡ noLink → (b : ℕ) → b ≡ 32 * y → Placed a h y p (eqb h b)
+  placed-first : p ≡ noLink → (b : ℕ) → b ≡ 32 * y → Placed a h y p (eqb h b)
   placed-first z b e l v t = go (held a l v t)
     where
       go : (m : Memory) → told (eqb h b) ≡ run m (seePrev (grains 8 a) (link a h) y (link a p))
@@ -59,7 +59,7 @@ module _ (a : List ℕ) (h y p : ℕ) (s : length a < 18446744073709551616) (i :
     past m = ap (run m) (eq-no (link a p) none _ _ (link-some a p s z))
 
     -- the head is no grain
-    pub placed-headless : grains 8 a ≤ g → Placed a h y p false
+    placed-headless : grains 8 a ≤ g → Placed a h y p false
     placed-headless q l v t = sym (go (held a l v t))
       where
         go : (m : Memory) → run m (seePrev (grains 8 a) (link a h) y (link a p)) ≡ no 5
@@ -70,17 +70,57 @@ module _ (a : List ℕ) (h y p : ℕ) (s : length a < 18446744073709551616) (i :
       head-in m = gives-le m 5 (suc (link a h)) (grains 8 a) (omega (arith, link-grain a h s (omega arith)))
 
       -- y itself is the head
-      pub placed-twice : (b : ℕ) → b ≡ 32 * y → h ≡ b → Placed a h y p false
+      placed-twice : (b : ℕ) → b ≡ 32 * y → h ≡ b → Placed a h y p false
       placed-twice b d c l v t = sym (go (held a l v t))
         where
           go : (m : Memory) → run m (seePrev (grains 8 a) (link a h) y (link a p)) ≡ no 5
           go m = past m ∙ goes m (mustGrain (grains 8 a) (link a h)) _ (head-in m) ∙ halts m (mustDiffer (link a h) y) _ (halts-differ m (link a h) y (head-is (c ∙ d)))
 
       -- another is: what is before y has to lead to it
-      pub placed-behind : (b : ℕ) → b ≡ 32 * y → (h ≡ b → ⊥) → (r : Bool) → Says (Back a Next p y) r → Placed a h y p r
+      placed-behind : (b : ℕ) → b ≡ 32 * y → (h ≡ b → ⊥) → (r : Bool) → Says (Back a Next p y) r → Placed a h y p r
       placed-behind b d c r k l v t = sym (go (held a l v t) (back-told (held a l v t) a Next p y s (reading-next a l v t s) z r k))
         where
           go : (m : Memory) → told r ≡ run m (mustGrain (grains 8 a) (link a p) >> mustLead Next (link a p) y) → run m (seePrev (grains 8 a) (link a h) y (link a p)) ≡ told r
           go m w =
               past m ∙ goes m (mustGrain (grains 8 a) (link a h)) _ (head-in m)
               ∙ goes m (mustDiffer (link a h) y) _ (gives-differ m (link a h) y (head-not (λ f. c (f ∙ sym d)))) ∙ sym w
+
+  -- ---- the same where nothing hangs on whether p is none; b is the word of y
+
+  module _ (b : ℕ) (d : b ≡ 32 * y) where
+    -- y is not the head, and has nothing before it
+    orphan : p ≡ noLink → (h ≡ b → ⊥) → Placed a h y p false
+    orphan z n = subst (Placed a h y p) (ne-eqb h b n) (placed-first z b d)
+
+    -- the head is no grain
+    pub placed-nowhere : (g : ℕ) → g ≡ turned h → grains 8 a ≤ g → Placed a h y p false
+    placed-nowhere g e q = ⊎-elim
+        (λ (z : p ≡ noLink). orphan z (λ w. omega (arith, e ∙ ap turned (w ∙ d) ∙ turned-is y)))
+        (λ (n : p ≡ noLink → ⊥). placed-headless n g e q)
+        (same? p noLink)
+
+    -- y is the head, and has something before it
+    pub placed-both : (g : ℕ) → g ≡ turned h → g < grains 8 a → (c : ℕ) → c ≡ ifEq p noLink noLink h → c ≡ b → Placed a h y p false
+    placed-both g e q c f w = ⊎-elim
+        (λ (z : p ≡ noLink). absurd (omega (arith, sym (f ∙ eq-yes p noLink noLink h z) ∙ w ∙ d, grains-few a s)))
+        (λ (n : p ≡ noLink → ⊥). placed-twice n g e q b d (sym (f ∙ eq-no p noLink noLink h n) ∙ w))
+        (same? p noLink)
+
+    -- it is neither
+    pub placed-neither : (c : ℕ) → c ≡ ifEq p noLink h b → (c ≡ b → ⊥) → Placed a h y p false
+    placed-neither c f w = ⊎-elim
+        (λ (z : p ≡ noLink). orphan z (λ q. w (f ∙ eq-yes p noLink h b z ∙ q)))
+        (λ (n : p ≡ noLink → ⊥). absurd (w (f ∙ eq-no p noLink h b n)))
+        (same? p noLink)
+
+    -- it is one of both: what is before it, if anything, has to lead to it
+    pub placed-one : (g : ℕ) → g ≡ turned h → g < grains 8 a → (c : ℕ) → c ≡ ifEq p noLink noLink h → (c ≡ b → ⊥) → (o : ℕ) → o ≡ ifEq p noLink h b → o ≡ b
+        → (r : Bool) → Says (Back a Next p y) r → Placed a h y p r
+    placed-one g e q c f w o m x r k = ⊎-elim
+        (λ (z : p ≡ noLink). subst (Placed a h y p) (eq-eqb h b (sym (m ∙ eq-yes p noLink h b z) ∙ x) ∙ sure z r k) (placed-first z b d))
+        (λ (n : p ≡ noLink → ⊥). placed-behind n g e q b d (λ u. w (f ∙ eq-no p noLink noLink h n ∙ u)) r k)
+        (same? p noLink)
+      where
+        sure : p ≡ noLink → (r : Bool) → Says (Back a Next p y) r → true ≡ r
+        sure z true k = refl
+        sure z false k = absurd (k (inl z))

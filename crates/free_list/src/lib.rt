@@ -2,12 +2,14 @@
 // lists. Links are words: the bytes of a grain, or none. What contradicts itself is found before anything is written.
 ghost use mathlib.Core.Path.{_≡_};
 ghost use Prim.Native.Nat.{_+_, _*_, _<_};
+ghost use Rattle.choice.specs.Choice.{ifEq};
 ghost use Rattle.choice.specs.Says.{Says};
 ghost use Rattle.table.specs.Table.{entry};
 ghost use Rattle.bits.specs.Map.{mapWords};
-ghost use Rattle.word.specs.Word.{putAt};
+ghost use Rattle.word.specs.Word.{wordAt, putAt};
 ghost use Rattle.sound.specs.Links.{unlinkWrites, pushWrites};
 ghost use Rattle.slices.specs.Decode.{grains};
+ghost use Rattle.header.specs.Turned.{turned};
 ghost use Rattle.free_list.specs.Lent.{noLink, link, Leads, Room, Holds};
 ghost use Rattle.free_list.specs.Back.{Back};
 ghost use Rattle.free_list.specs.Place.{Placed};
@@ -94,13 +96,13 @@ fn stands_behind(a: &[u8], h: u64, y: usize, p: u64) -> bool
     ensures { λ r. ⌜ Placed (now (a .entry)) h y p r ⌝ }
 {
     let word = header::bytes_of(y);
-    if p == NONE {
-        return h == word;
-    }
     if header::count(a) <= header::grain_of(h) {
         return false;
     }
-    if h == word {
+    if word_or(p, NONE, h) == word {
+        return false;
+    }
+    if word_or(p, h, word) != word {
         return false;
     }
     leads_back(a, NEXT, p, y)
@@ -111,14 +113,41 @@ pub fn leads_back(a: &[u8], f: usize, x: u64, y: usize) -> bool
     requires { ⌜ (f < 4) × (y < grains 8 (now a)) ⌝ }
     ensures { λ r. ⌜ Says (Back (now (a .entry)) f x y) r ⌝ }
 {
-    if x == NONE {
-        return true;
-    }
-    let g = header::grain_of(x);
+    let own = header::field(a, y, f);
+    let g = grain_or(x, y);
     if header::count(a) <= g {
         return false;
     }
-    header::leads(a, g, f, y)
+    let due = word_or(x, own, header::bytes_of(y));
+    if header::field(a, g, f) == due {
+        return true;
+    }
+    false
+}
+
+// ---- a link that may be none
+//
+// Whether it is can't be foretold, and a jump that the processor guesses wrong takes longer than a check. So a block stands
+// for what a link that is none would lead to: it is read and compared, or written as it is.
+
+// The grain that x leads to; y where it is none.
+fn grain_or(x: u64, y: usize) -> usize
+    ensures { λ r. ⌜ r ≡ ifEq x noLink y (turned x) ⌝ }
+{
+    if x == NONE {
+        return y;
+    }
+    header::grain_of(x)
+}
+
+// v where x is none, else w.
+fn word_or(x: u64, v: u64, w: u64) -> u64
+    ensures { λ r. ⌜ r ≡ ifEq x noLink v w ⌝ }
+{
+    if x == NONE {
+        return v;
+    }
+    w
 }
 
 // ---- writes
@@ -134,14 +163,26 @@ pub fn unlink(a: &mut [u8], lists: &mut [u64], k: usize, x: u64, p: u64)
     join_prev(a, lists, k, x, p);
 }
 
-// The same, where that block is y.
+// The same, where that block is y: nothing hangs on whether a link is none.
 pub fn unlink_at(a: &mut [u8], lists: &mut [u64], k: usize, x: u64, p: u64, y: usize)
     requires { ⌜ Room k (now lists) × Leads (now a) x × Leads (now a) p × (y < grains 8 (now a)) × Holds (now a) y x p ⌝ }
     ensures { λ r. ⌜ Written (now (a .entry)) (now (lists .entry))
         (unlinkWrites k (link (now (a .entry)) x) (link (now (a .entry)) p))
         (now (a .exit)) (now (lists .exit)) ⌝ }
 {
-    unlink(a, lists, k, x, p);
+    lead(a, NEXT, p, x, y);
+    let head = word_or(p, x, head_of(lists, k));
+    table::store(lists, MAP_WORDS + k, head);
+    lead(a, PREV, x, p, y);
+    bits::unmark_where(lists, k, word_or(p, x, p), NONE);
+}
+
+// Link f of what w leads to is v. Where w is none nothing changes: that link of y is v already.
+fn lead(a: &mut [u8], f: usize, w: u64, v: u64, y: usize)
+    requires { ⌜ (f < 4) × (y < grains 8 (now a)) × Leads (now a) w × (wordAt 8 (now a) (4 * y + f) ≡ v) ⌝ }
+    ensures { λ r. ⌜ now (a .exit) ≡ ifEq w noLink (now (a .entry)) (putAt 8 (now (a .entry)) (4 * turned w + f) v) ⌝ }
+{
+    header::put_field(a, grain_or(w, y), f, v);
 }
 
 // What is before the block, p or the head of list k, leads to x.

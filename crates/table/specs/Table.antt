@@ -4,7 +4,7 @@ use Prim.Native.Nat.{ℕ, _<_}
 use mathlib.Core.Path.{_≡_, sym}
 use mathlib.Core.List.{List}
 use lib.ListN.{length, getD, set, length-set}
-use lib.Seq.{getD-set-same, getD-set-other}
+use lib.Seq.{getD-set-same, getD-set-other, set-getD}
 
 -- entry number i of the table, 0 outside
 unfoldable pub entry : List ℕ → ℕ → ℕ
@@ -23,6 +23,11 @@ enter-length t i v = length-set t i v
 pub entry-enter : (t : List ℕ) (i v : ℕ) → i < length t → entry (enter t i v) i ≡ v
 unfolding entry enter
 entry-enter t i v h = getD-set-same t i v 0 h
+
+-- an entry that is entered again changes nothing
+pub enter-own : (t : List ℕ) (i : ℕ) → enter t i (entry t i) ≡ t
+unfolding entry enter
+enter-own t i = set-getD t i 0
 
 -- every other entry stays
 pub entry-other : (t : List ℕ) (i v j : ℕ) → (i ≡ j → ⊥) → entry (enter t i v) j ≡ entry t j

@@ -8,7 +8,7 @@ use mathlib.Core.Path.{_≡_, refl, _∙_}
 use mathlib.Core.List.{List}
 use mathlib.Core.Logic.{_⊎_, inl, inr, ⊎-elim}
 use lib.ListN.{length, getD, set, length-set}
-use lib.Seq.{getD-set-same, getD-set-other}
+use lib.Seq.{getD-set-same, getD-set-other, set-getD}
 
 -- the number of the n bytes from i on
 unfoldable pub num : ℕ → List ℕ → ℕ → ℕ
@@ -59,6 +59,17 @@ num-puts (suc n) l i v h f =
     let a : getD k i 0 ≡ v % 256 =
     puts-byte n (set l i (v % 256)) (i + 1) (v / 256) i (inr (omega arith)) ∙ getD-set-same l i (v % 256) 0 (omega arith) in
     omega (arith, a, b)
+
+-- bytes that are put as they are change nothing
+pub puts-own : (n : ℕ) (l : List ℕ) (i : ℕ) → ((j : ℕ) → getD l j 0 < 256) → puts n l i (num n l i) ≡ l
+unfolding num puts
+puts-own zero l i b = refl
+puts-own (suc n) l i b =
+    let x = getD l i 0 in
+    let y = num n l (i + 1) in
+    let low : (x + 256 * y) % 256 ≡ x = omega (arith, b i) in
+    let high : (x + 256 * y) / 256 ≡ y = omega (arith, b i) in
+    rw (low, high, set-getD l i 0) (puts-own n l (i + 1) b)
 
 -- a number that has no byte in common with the place written stays, whatever the two widths are
 pub num-puts-apart : (m n : ℕ) (l : List ℕ) (i v j : ℕ) → Apart i n j m → num m (puts n l i v) j ≡ num m l j

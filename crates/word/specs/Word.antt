@@ -8,7 +8,7 @@ use mathlib.Core.List.{List}
 use mathlib.Core.Logic.{inl, inr, ⊎-elim}
 use lib.ListN.{length, getD}
 use Rattle.choice.specs.Choice.{le?}
-use Rattle.word.specs.Number.{num, puts, Apart, puts-length, puts-byte, num-puts, num-puts-apart}
+use Rattle.word.specs.Number.{num, puts, Apart, puts-length, puts-byte, num-puts, puts-own, num-puts-apart}
 
 -- word number i
 unfoldable pub wordAt : ℕ → List ℕ → ℕ → ℕ
@@ -27,6 +27,11 @@ put-at-length w l i v = puts-length w l (w * i) v
 pub word-at-put : (w : ℕ) (l : List ℕ) (i v : ℕ) → w * i + w ≤ length l → v < 256 ^ w → wordAt w (putAt w l i v) i ≡ v
 unfolding wordAt putAt
 word-at-put w l i v h f = num-puts w l (w * i) v h f
+
+-- a word that is put again changes nothing
+pub put-at-own : (w : ℕ) (l : List ℕ) (i : ℕ) → ((j : ℕ) → getD l j 0 < 256) → putAt w l i (wordAt w l i) ≡ l
+unfolding wordAt putAt
+put-at-own w l i b = puts-own w l (w * i) b
 
 -- of two words the earlier one ends before the other starts
 words-apart : (w i j : ℕ) → i < j → w * i + w ≤ w * j

@@ -1,37 +1,73 @@
--- `free_list::leads_back`: each return is one case of leading back.
+-- `free_list::leads_back`: the word that is due is there, or isn't.
 use native.Mathlib.Omega.{arith}
-use mathlib.Core.Logic.{inl}
-use Rattle.free_list.specs.Back.{back-outside, back-says}
+use mathlib.Core.Path.{_≡_, ap, _∙_}
+use Prim.Native.Nat.{_*_}
+use Rattle.choice.specs.Choice.{ifEq}
+use Rattle.header.specs.Turned.{grains-few}
+use Rattle.free_list.specs.Lent.{noLink}
+use Rattle.free_list.specs.Back.{back-far, back-due, back-undue}
 use borrow.Author.Needs.{needs}
 use Rattle.free_list.proofs.leads_back.Statement.{statement}
 use Rattle.free_list.proofs.leads_back.Tie as tie
 
-returns : tie.Need-returns
-returns c = inl (c .if1 .taken)
+field-requires : tie.Need-field-requires
+field-requires c κs = search needs
 
-grain-of-requires : tie.Need-grain-of-requires
-grain-of-requires c κs = search needs
+grain-or-requires : tie.Need-grain-or-requires
+grain-or-requires c κs = search needs
 
 count-requires : tie.Need-count-requires
 count-requires c κs = search needs
 
+returns : tie.Need-returns
+returns c =
+    let g = c .before .before in
+    let s = g .before .before .before in
+    back-far (s .args .a .now) (s .args .f) (s .args .x) (s .args .y) (g .grain-or .result) (s .pre .1) (g .grain-or .ensures) (omega arith)
+
+bytes-of-requires : tie.Need-bytes-of-requires
+bytes-of-requires c κs =
+    let s = c .before .before .before .before .before in
+    omega (arith, s .pre .1, grains-few (s .args .a .now) (s .good .0 .0))
+
+word-or-requires : tie.Need-word-or-requires
+word-or-requires c κs = search needs
+
+field-requires-2 : tie.Need-field-requires-2
+field-requires-2 c κs = search needs
+
 returns-2 : tie.Need-returns-2
 returns-2 c =
-    let e = c .before .before .before in
-    let s = e .before .before in
-    back-outside (s .args .a .now) (s .args .f) (s .args .x) (s .args .y) (c .before .before .grain-of .result) (e .if1 .left) (c .before .before .grain-of .ensures) (omega arith)
-
-leads-requires : tie.Need-leads-requires
-leads-requires c κs = search needs
+    let v = c .before in
+    let d = v .before in
+    let b = d .before in
+    let g = b .before .before .before in
+    let o = g .before in
+    let s = o .before .before in
+    back-due (s .args .a .now) (s .args .f) (s .args .x) (s .args .y) (g .grain-or .result) (s .pre .1) (g .grain-or .ensures) (s .good .0 .0) (omega arith)
+    (o .field .result) (v .field2 .result) (d .word-or .result) (o .field .ensures) (v .field2 .ensures) (d .word-or .ensures ∙ ap (ifEq (s .args .x) noLink (o .field .result)) (b .bytes-of .ensures)) (c .if2 .taken)
 
 returns-3 : tie.Need-returns-3
 returns-3 c =
-    let e = c .before .before .before .before in
-    let s = e .before .before in
-    let g = c .before .before .before in
-    back-says (s .args .a .now) (s .args .f) (s .args .x) (s .args .y) (g .grain-of .result) (e .if1 .left) (g .grain-of .ensures) (c .leads .result) (omega arith) (c .leads .ensures)
+    let v = c .before in
+    let d = v .before in
+    let b = d .before in
+    let g = b .before .before .before in
+    let o = g .before in
+    let s = o .before .before in
+    back-undue (s .args .a .now) (s .args .f) (s .args .x) (s .args .y) (g .grain-or .result) (s .pre .1) (g .grain-or .ensures) (s .good .0 .0) (omega arith)
+    (o .field .result) (v .field2 .result) (d .word-or .result) (o .field .ensures) (v .field2 .ensures) (d .word-or .ensures ∙ ap (ifEq (s .args .x) noLink (o .field .result)) (b .bytes-of .ensures)) (c .if2 .left)
 
 pub leads-back-spec : {M : Type 1} → statement M
 leads-back-spec =
     tie.close
-    (tie.spec returns grain-of-requires count-requires returns-2 leads-requires returns-3)
+    (tie.spec
+    field-requires
+    grain-or-requires
+    count-requires
+    returns
+    bytes-of-requires
+    word-or-requires
+    field-requires-2
+    returns-2
+    returns-3)
