@@ -23,7 +23,7 @@ use Rattle.slices.specs.Arena.{sizeAt, linkAt, link-in, size-inside}
 use Rattle.slices.specs.Slices.{memory-size, memory-before}
 use Rattle.header.specs.Turned.{turned}
 use Rattle.header.specs.Told.{freeOf, busyOf}
-use Rattle.free_list.specs.Lent.{lent, held, noLink, link, link-none, link-some, link-grain, link-past}
+use Rattle.free_list.specs.Lent.{lent, held, noLink, link, Holds, link-none, link-some, link-grain, link-past}
 use Rattle.free_list.specs.Back.{reading-next, reading-prev}
 use Rattle.free_list.specs.Seen.{head-read}
 use Rattle.allocate.specs.declared.First.{First}
@@ -94,7 +94,7 @@ after false x = no 5
 pub record SeenFirst (a l : List ℕ) (k : ℕ) (r : First) : Type 0 where
   pub seen : (v t : List ℕ) (f : ℕ → ℕ → ℕ → Script Plan) →
       run (held a l v t) (firstThen (grains 8 a) k f) ≡ after (r .ok) (run (held a l v t) (backThen (grains 8 a) f (r .at) (r .grains) (link a (r .next))))
-  pub inside : r .ok ≡ true → (r .at + r .grains < grains 8 a) × (0 < r .grains) × (listOf (r .grains) ≡ k)
+  pub inside : r .ok ≡ true → (r .at + r .grains < grains 8 a) × (0 < r .grains) × (listOf (r .grains) ≡ k) × Holds a (r .at) (r .next) noLink
 
 -- ---- the check of what is next, before or behind the others
 
@@ -232,5 +232,5 @@ module _ (a l : List ℕ) (k h y : ℕ) (s : length a < 18446744073709551616) (j
             seen = λ v t f. links-are v t f
                 ∙ back-same (held a l v t) (grains 8 a) y (link a x) (endThen y g (link a x) f) (f y g (link a x))
                 (ends (held a l v t) (grains 8 a) y g f (link a x) (wordOf (sizeAt 8 a (y + g))) (ap wordOf (memory-size 8 (lent a l v t) (y + g))) (b .0) (reading-before a l v t (y + g) first-inside ∙ b .1));
-            inside = λ _. (first-inside, omega (arith, p), sym w ∙ z);
+            inside = λ _. (first-inside, omega (arith, p), sym w ∙ z, (sym nextIs, u));
           })

@@ -20,7 +20,7 @@ use Rattle.sound.specs.Plans.{leaveScript, padWrites, takeScript}
 use Rattle.sound.specs.Plans.{Plan as Answer}
 use Rattle.slices.specs.Decode.{grains}
 use Rattle.slices.specs.Slices.{memory-mark}
-use Rattle.free_list.specs.Lent.{lent, held, classes, Room, link, Leads}
+use Rattle.free_list.specs.Lent.{lent, held, classes, Room, noLink, link, Leads, Holds}
 use Rattle.free_list.specs.Answers.{answer, unless}
 use Rattle.free_list.specs.Back.{Back, reading-prev, back-yes, back-no}
 use Rattle.allocate.specs.declared.Plan.{Plan}
@@ -44,10 +44,11 @@ shown a r = unless (r .refusal) (madeBy a r)
 abbrev pub Refuses : ℕ → Plan → Type 0
 Refuses w r = r .refusal ≡ w
 
--- room for all that is written, where it is not refused
+-- room for all that is written, where it is not refused, and the links of the block, as they were found
 pub record Bounded (a l : List ℕ) (r : Plan) : Type 0 where
   pub list : Room (r .list) l
   pub next : Leads a (r .next)
+  pub holds : Holds a (r .at) (r .next) noLink
   pub kept : r .keep ≤ r .grains
   pub block : r .at + r .grains < grains 8 a
   pub rest : (r .keep ≡ r .grains → ⊥) → Room (r .«rest_list») l × Leads a (r .head)
@@ -128,13 +129,14 @@ made-answers a l k y s x p u d m o i f e q w b v t =
     ∙ gives-done c _)
 
 -- and there is room
-pub cut-made : (a l : List ℕ) (k y s x p u d m : ℕ) (o : Rest) → length a < 18446744073709551616 → 0 < u → Room k l → Back a Prev x y → y + s < grains 8 a → wanted p u ≤ s → d ≡ place u y → m ≡ keeps d p
+pub cut-made : (a l : List ℕ) (k y s x p u d m : ℕ) (o : Rest) → length a < 18446744073709551616 → 0 < u → Room k l → Back a Prev x y → Holds a y x noLink → y + s < grains 8 a → wanted p u ≤ s → d ≡ place u y → m ≡ keeps d p
     → SeenRest a l k x s m o → o .ok ≡ true → Cuts a l k y s x p u (cutPlan k y s x d m o)
-cut-made a l k y s x p u d m o c h g f i j e q w b = record {
+cut-made a l k y s x p u d m o c h g f t i j e q w b = record {
   answers = made-answers a l k y s x p u d m o c f e q w b;
   bounds = λ _. record {
     list = g;
     next = back-leads a y x f;
+    holds = t;
     kept = keeps-within u y p s d m h e q j;
     block = i;
     rest = λ n. let r = w .ready n b in (record { known = r .0; room = g .room }, r .1 (back-leads a y x f));

@@ -7,7 +7,7 @@ ghost use Rattle.choice.specs.Choice.{ifEq};
 ghost use Rattle.class.specs.Class.{listOf};
 ghost use Rattle.definition.specs.Calls.{wanted as wantedOf};
 ghost use Rattle.slices.specs.Decode.{grains as grainsOf};
-ghost use Rattle.free_list.specs.Lent.{Long, Room};
+ghost use Rattle.free_list.specs.Lent.{Long, Room, Holds, noLink};
 ghost use Rattle.allocate.specs.Demand.{Demand};
 ghost use Rattle.allocate.specs.First.{IsBounded, Lost, SeenFirst};
 ghost use Rattle.allocate.specs.Rest.{SeenRest};
@@ -100,7 +100,8 @@ fn cut(
     length: usize,
     multiple: usize,
 ) -> Plan
-    requires { ⌜ Demand length multiple × Room list (now lists) × (at + grains < grainsOf 8 (now a)) × (listOf grains ≡ list) × (wantedOf length multiple ≤ grains) ⌝ }
+    requires { ⌜ Demand length multiple × Room list (now lists) × (at + grains < grainsOf 8 (now a)) × (listOf grains ≡ list) × (wantedOf length multiple ≤ grains)
+        × Holds (now a) at next noLink ⌝ }
     ensures { λ r. ⌜ Cuts (now (a .entry)) (now (lists .entry)) list at grains next length multiple r ⌝ }
 {
     let place = request::place_of(multiple, at);

@@ -11,17 +11,18 @@ use Rattle.sound.specs.Links.{unlinkWrites}
 use Rattle.sound.specs.Plans.{padWrites}
 use Rattle.slices.specs.Decode.{grains}
 use Rattle.slices.specs.Slices.{stores}
-use Rattle.free_list.specs.Lent.{lent, Room, noLink, link, Leads, link-keep, link-none}
+use Rattle.free_list.specs.Lent.{lent, Room, noLink, link, Leads, Holds, link-keep, link-none}
 use Rattle.free_list.specs.Written.{Written, WrittenLive, live-then, written-then, written-as, written-length}
 use Rattle.carve.specs.Made.{WrittenInArena, leftBehind}
 use Rattle.allocate.specs.declared.Plan.{Plan}
 use Rattle.allocate.specs.Rest.{leftWrites}
 use Rattle.allocate.specs.Plan.{madeBy, Bounded}
 
--- room for all that is written: the bounds that a plan which was not refused keeps
+-- room for all that is written, and the block's links as they were found: what a plan that was not refused keeps
 pub record Ready (a l v : List ℕ) (k x y s m q h d : ℕ) : Type 0 where
   pub list : Room k l
   pub next : Leads a x
+  pub holds : Holds a y x noLink
   pub kept : m ≤ s
   pub block : y + s < grains 8 a
   pub rest : (m ≡ s → ⊥) → Room q l × Leads a h
@@ -66,7 +67,7 @@ take-made a l v b n c o e i k x y s m q h d f w1 w2 w3 g =
 module _ (a l v : List ℕ) (r : Plan) where
   -- has room for its writes, where the live bits reach to its payload
   pub plan-ready : Bounded a l r → 2 * r .at + r .place < 64 * length v → Ready a l v (r .list) (r .next) (r .at) (r .grains) (r .keep) (r .«rest_list») (r .head) (r .place)
-  plan-ready b h = record { list = b .list; next = b .next; kept = b .kept; block = b .block; rest = b .rest; some = b .some; pad = b .pad; live = h }
+  plan-ready b h = record { list = b .list; next = b .next; holds = b .holds; kept = b .kept; block = b .block; rest = b .rest; some = b .some; pad = b .pad; live = h }
 
   -- and these are its writes
   pub plan-writes : takenWrites a (r .list) (r .next) (r .at) (r .grains) (r .keep) (r .«rest_list») (r .head) (r .place) ≡ madeBy a r .writes

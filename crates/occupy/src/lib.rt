@@ -23,7 +23,7 @@ pub fn apply_take(
         (takenWrites (now (a .entry)) list next at grains keep rest head place)
         (now (a .exit)) (now (lists .exit)) (now (live .exit)) ⌝ }
 {
-    free_list::unlink(a, lists, list, next, NONE);
+    free_list::unlink_at(a, lists, list, next, NONE, at);
     carve::put_left(a, lists, at, grains, keep, rest, head);
     carve::put_pad(a, at, place);
     bits::set_table_bit(live, 2 * at + place);

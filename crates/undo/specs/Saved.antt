@@ -140,6 +140,7 @@ module _ (a l v : List ℕ) (k x y s m q h d : ℕ) (r : Ready a l v k x y s m q
   none-left = record {
     list = r .list;
     next = r .next;
+    holds = r .holds;
     kept = r .kept;
     block = r .block;
     rest = λ _. (r .list, inl refl);

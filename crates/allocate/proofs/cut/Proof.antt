@@ -66,7 +66,7 @@ returns-3 c =
     let s = p .before .before .before in
     cut-made (s .args .a .now) (s .args .lists .now) (s .args .list) (s .args .at) (s .args .grains) (s .args .next) (s .args .length) (s .args .multiple) (p .place-of .result) (k .keeps-of .result)
     (r .see-rest .result) (s .good .0 .0) (power-pos (s .args .multiple) (s .pre .0 .power)) (s .pre .1) (says-yes _ (b .leads-back .result) (b .leads-back .ensures) (not-false _ (c .if2 .left)))
-    (s .pre .2) (s .pre .4) (p .place-of .ensures) (k .keeps-of .ensures) (r .see-rest .ensures) (not-false _ (b .before .if1 .left))
+    (s .pre .5) (s .pre .2) (s .pre .4) (p .place-of .ensures) (k .keeps-of .ensures) (r .see-rest .ensures) (not-false _ (b .before .if1 .left))
 
 pub cut-spec : {M : Type 1} → statement M
 cut-spec =

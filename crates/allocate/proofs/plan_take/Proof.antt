@@ -93,6 +93,7 @@ cut-requires c κs =
       i .0,
       i .2,
       plan-enough (s .args .a .now) (s .args .lists .now) (s .args .length) (s .args .multiple) (m .map-ceil .result) (k .first-marked .result) (starts m) (k .first-marked .ensures) (omega (arith, f .before .if2 .left)) (f .see-first .result) (f .see-first .ensures) w o,
+      i .3,
     )
 
 returns-4 : tie.Need-returns-4

@@ -11,19 +11,19 @@ use borrow.Author.Needs.{needs}
 use Rattle.occupy.proofs.apply_take.Statement.{statement}
 use Rattle.occupy.proofs.apply_take.Tie as tie
 
-unlink-requires : tie.Need-unlink-requires
-unlink-requires c κs =
+unlink-at-requires : tie.Need-unlink-at-requires
+unlink-at-requires c κs =
     let s = c .before .before .before .before .before in
-    (s .pre .list, s .pre .next, inl refl)
+    (s .pre .list, s .pre .next, inl refl, omega (arith, s .pre .block), s .pre .holds)
 
 put-left-requires : tie.Need-put-left-requires
 put-left-requires c κs =
     let u = c .before .before .before .before .before .before in
     let s = u .before .before .before .before .before .before in
-    let e = written-length (u .unlink .ensures) in (
+    let e = written-length (u .unlink-at .ensures) in (
       s .pre .kept,
       rw (grains-keep 8 (s .args .a .now) _ e) (s .pre .block),
-      λ n. let r = s .pre .rest n in (written-room (s .args .rest) (u .unlink .ensures) (r .0), leads-keep (s .args .a .now) _ (s .args .head) e (r .1)),
+      λ n. let r = s .pre .rest n in (written-room (s .args .rest) (u .unlink-at .ensures) (r .0), leads-keep (s .args .a .now) _ (s .args .head) e (r .1)),
     )
 
 put-pad-requires : tie.Need-put-pad-requires
@@ -31,7 +31,7 @@ put-pad-requires c κs =
     let p = c .before .before .before .before .before in
     let u = p .before .before .before .before .before .before .before in
     let s = u .before .before .before .before .before .before in
-    (s .pre .some, rw (grains-keep 8 (s .args .a .now) _ (written-length (p .put-left .ensures) ∙ written-length (u .unlink .ensures))) (s .pre .pad))
+    (s .pre .some, rw (grains-keep 8 (s .args .a .now) _ (written-length (p .put-left .ensures) ∙ written-length (u .unlink-at .ensures))) (s .pre .pad))
 
 mul-set-table-bit : tie.Need-mul-set-table-bit
 mul-set-table-bit c =
@@ -63,13 +63,13 @@ returns c =
     let u = p .before .before .before .before .before .before .before in
     let s = u .before .before .before .before .before .before in
     take-made (s .args .a .now) (s .args .lists .now) (s .args .live .now) _ _ _ _ _ _ (s .args .list) (s .args .next) (s .args .at) (s .args .grains) (s .args .keep) (s .args .rest) (s .args .head) (s .args .place) (s .good .0 .0)
-    (u .unlink .ensures) (p .put-left .ensures) (d .put-pad .ensures) (b .set-table-bit .ensures)
+    (u .unlink-at .ensures) (p .put-left .ensures) (d .put-pad .ensures) (b .set-table-bit .ensures)
 
 pub apply-take-spec : {M : Type 1} → statement M
 apply-take-spec =
     tie.close
     (tie.spec
-    unlink-requires
+    unlink-at-requires
     put-left-requires
     put-pad-requires
     mul-set-table-bit
