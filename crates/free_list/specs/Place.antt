@@ -3,13 +3,13 @@
 use Prim.Native.Nat.{ℕ, suc, _*_, _≤_, _<_}
 use native.Mathlib.Omega.{arith}
 use mathlib.Core.Path.{_≡_, refl, ap, sym, _∙_, subst}
-use mathlib.Core.Bool.{Bool, true, false}
+use mathlib.Core.Bool.{Bool, true, false, Bool·beq, true≢false}
 use mathlib.Core.List.{List}
 use mathlib.Core.Logic.{inl, ⊎-elim}
 use lib.ListN.{length}
 use lib.Dec.{eqb}
 use borrow.Author.Tests.{eq-eqb, ne-eqb}
-use Rattle.choice.specs.Choice.{ifEq, eq-yes, eq-no, same?}
+use Rattle.choice.specs.Choice.{eq-yes, eq-no, same?}
 use Rattle.choice.specs.Says.{Says}
 use Rattle.script.specs.Memory.{Memory, Next, none}
 use Rattle.script.specs.Script.{Script, mustDiffer, ok, no, run, _>>_, goes, halts, gives-eq, gives-le, gives-differ, halts-eq, halts-le, halts-differ}
@@ -24,6 +24,19 @@ use Rattle.free_list.specs.Back.{Back, reading-next, back-told}
 -- p is before y in a list of the arena a whose head is h: the code's answer r is that of the check
 abbrev pub Placed : List ℕ → ℕ → ℕ → ℕ → Bool → Type 0
 Placed a h y p r = (l v t : List ℕ) → told r ≡ run (held a l v t) (seePrev (grains 8 a) (link a h) y (link a p))
+
+-- two tests with one outcome, and with two
+agree : (s t : Bool) → Bool·beq s t ≡ true → s ≡ t
+agree true true h = refl
+agree true false h = absurd (true≢false (sym h))
+agree false true h = absurd (true≢false (sym h))
+agree false false h = refl
+
+differ : (s t : Bool) → Bool·beq s t ≡ false → s ≡ t → ⊥
+differ true true h e = true≢false h
+differ true false h e = true≢false e
+differ false true h e = true≢false (sym e)
+differ false false h e = true≢false h
 
 -- what is checked where something is before y
 abbrev behindHead : ℕ → ℕ → ℕ → ℕ → Script (Unit {0})
@@ -99,26 +112,21 @@ module _ (a : List ℕ) (h y p : ℕ) (s : length a < 18446744073709551616) (i :
         (λ (n : p ≡ noLink → ⊥). placed-headless n g e q)
         (same? p noLink)
 
-    -- y is the head, and has something before it
-    pub placed-both : (g : ℕ) → g ≡ turned h → g < grains 8 a → (c : ℕ) → c ≡ ifEq p noLink noLink h → c ≡ b → Placed a h y p false
-    placed-both g e q c f w = ⊎-elim
-        (λ (z : p ≡ noLink). absurd (omega (arith, sym (f ∙ eq-yes p noLink noLink h z) ∙ w ∙ d, grains-few a s)))
-        (λ (n : p ≡ noLink → ⊥). placed-twice n g e q b d (sym (f ∙ eq-no p noLink noLink h n) ∙ w))
-        (same? p noLink)
-
-    -- it is neither
-    pub placed-neither : (c : ℕ) → c ≡ ifEq p noLink h b → (c ≡ b → ⊥) → Placed a h y p false
-    placed-neither c f w = ⊎-elim
-        (λ (z : p ≡ noLink). orphan z (λ q. w (f ∙ eq-yes p noLink h b z ∙ q)))
-        (λ (n : p ≡ noLink → ⊥). absurd (w (f ∙ eq-no p noLink h b n)))
+    -- y is the head, and has something before it; or it is neither
+    pub placed-apart : (g : ℕ) → g ≡ turned h → g < grains 8 a → Bool·beq (eqb h b) (eqb p noLink) ≡ false → Placed a h y p false
+    placed-apart g e q w = ⊎-elim
+        (λ (z : p ≡ noLink). orphan z (λ u. differ (eqb h b) (eqb p noLink) w (eq-eqb h b u ∙ sym (eq-eqb p noLink z))))
+        (λ (n : p ≡ noLink → ⊥). ⊎-elim
+            (λ (u : h ≡ b). placed-twice n g e q b d u)
+            (λ (u : h ≡ b → ⊥). absurd (differ (eqb h b) (eqb p noLink) w (ne-eqb h b u ∙ sym (ne-eqb p noLink n))))
+            (same? h b))
         (same? p noLink)
 
     -- it is one of both: what is before it, if anything, has to lead to it
-    pub placed-one : (g : ℕ) → g ≡ turned h → g < grains 8 a → (c : ℕ) → c ≡ ifEq p noLink noLink h → (c ≡ b → ⊥) → (o : ℕ) → o ≡ ifEq p noLink h b → o ≡ b
-        → (r : Bool) → Says (Back a Next p y) r → Placed a h y p r
-    placed-one g e q c f w o m x r k = ⊎-elim
-        (λ (z : p ≡ noLink). subst (Placed a h y p) (eq-eqb h b (sym (m ∙ eq-yes p noLink h b z) ∙ x) ∙ sure z r k) (placed-first z b d))
-        (λ (n : p ≡ noLink → ⊥). placed-behind n g e q b d (λ u. w (f ∙ eq-no p noLink noLink h n ∙ u)) r k)
+    pub placed-once : (g : ℕ) → g ≡ turned h → g < grains 8 a → Bool·beq (eqb h b) (eqb p noLink) ≡ true → (r : Bool) → Says (Back a Next p y) r → Placed a h y p r
+    placed-once g e q w r k = ⊎-elim
+        (λ (z : p ≡ noLink). subst (Placed a h y p) (agree (eqb h b) (eqb p noLink) w ∙ eq-eqb p noLink z ∙ sure z r k) (placed-first z b d))
+        (λ (n : p ≡ noLink → ⊥). placed-behind n g e q b d (λ u. true≢false (sym (eq-eqb h b u) ∙ agree (eqb h b) (eqb p noLink) w ∙ ne-eqb p noLink n)) r k)
         (same? p noLink)
       where
         sure : p ≡ noLink → (r : Bool) → Says (Back a Next p y) r → true ≡ r

@@ -99,10 +99,7 @@ fn stands_behind(a: &[u8], h: u64, y: usize, p: u64) -> bool
     if header::count(a) <= header::grain_of(h) {
         return false;
     }
-    if word_or(p, NONE, h) == word {
-        return false;
-    }
-    if word_or(p, h, word) != word {
+    if (h == word) != (p == NONE) {
         return false;
     }
     leads_back(a, NEXT, p, y)

@@ -1,7 +1,8 @@
 -- `free_list::stands_behind`: each return is one law of the block's place.
 use native.Mathlib.Omega.{arith}
+use borrow.Author.Tests.{not-true, not-false}
 use Rattle.header.specs.Turned.{grains-few}
-use Rattle.free_list.specs.Place.{placed-nowhere, placed-both, placed-neither, placed-one}
+use Rattle.free_list.specs.Place.{placed-nowhere, placed-apart, placed-once}
 use borrow.Author.Needs.{needs}
 use Rattle.free_list.proofs.stands_behind.Statement.{statement}
 use Rattle.free_list.proofs.stands_behind.Tie as tie
@@ -22,42 +23,23 @@ returns c =
     let s = b .before .before in
     placed-nowhere (s .args .a .now) (s .args .h) (s .args .y) (s .args .p) (s .good .0 .0) (s .pre) (b .bytes-of .result) (b .bytes-of .ensures) (g .grain-of .result) (g .grain-of .ensures) (omega arith)
 
-word-or-requires : tie.Need-word-or-requires
-word-or-requires c κs = search needs
-
 returns-2 : tie.Need-returns-2
 returns-2 c =
-    let w = c .before in
-    let g = w .before .before in
+    let g = c .before .before in
     let b = g .before .before in
     let s = b .before .before in
-    placed-both (s .args .a .now) (s .args .h) (s .args .y) (s .args .p) (s .good .0 .0) (s .pre) (b .bytes-of .result) (b .bytes-of .ensures) (g .grain-of .result) (g .grain-of .ensures) (omega arith)
-    (w .word-or .result) (w .word-or .ensures) (c .if2 .taken)
-
-word-or-requires-2 : tie.Need-word-or-requires-2
-word-or-requires-2 c κs = search needs
-
-returns-3 : tie.Need-returns-3
-returns-3 c =
-    let o = c .before in
-    let g = o .before .before .before .before in
-    let b = g .before .before in
-    let s = b .before .before in
-    placed-neither (s .args .a .now) (s .args .h) (s .args .y) (s .args .p) (s .good .0 .0) (s .pre) (b .bytes-of .result) (b .bytes-of .ensures) (o .word-or2 .result) (o .word-or2 .ensures) (c .if3 .taken)
+    placed-apart (s .args .a .now) (s .args .h) (s .args .y) (s .args .p) (s .good .0 .0) (s .pre) (b .bytes-of .result) (b .bytes-of .ensures) (g .grain-of .result) (g .grain-of .ensures) (omega arith) (not-true _ (c .if2 .taken))
 
 leads-back-requires : tie.Need-leads-back-requires
 leads-back-requires c κs = search needs
 
-returns-4 : tie.Need-returns-4
-returns-4 c =
-    let e = c .before in
-    let o = e .before in
-    let w = o .before .before in
-    let g = w .before .before in
+returns-3 : tie.Need-returns-3
+returns-3 c =
+    let g = c .before .before .before in
     let b = g .before .before in
     let s = b .before .before in
-    placed-one (s .args .a .now) (s .args .h) (s .args .y) (s .args .p) (s .good .0 .0) (s .pre) (b .bytes-of .result) (b .bytes-of .ensures) (g .grain-of .result) (g .grain-of .ensures) (omega arith)
-    (w .word-or .result) (w .word-or .ensures) (o .before .if2 .left) (o .word-or2 .result) (o .word-or2 .ensures) (e .if3 .left) (c .leads-back .result) (c .leads-back .ensures)
+    placed-once (s .args .a .now) (s .args .h) (s .args .y) (s .args .p) (s .good .0 .0) (s .pre) (b .bytes-of .result) (b .bytes-of .ensures) (g .grain-of .result) (g .grain-of .ensures) (omega arith) (not-false _ (c .before .if2 .left))
+    (c .leads-back .result) (c .leads-back .ensures)
 
 pub stands-behind-spec : {M : Type 1} → statement M
 stands-behind-spec =
@@ -67,9 +49,6 @@ stands-behind-spec =
     count-requires
     grain-of-requires
     returns
-    word-or-requires
     returns-2
-    word-or-requires-2
-    returns-3
     leads-back-requires
-    returns-4)
+    returns-3)
