@@ -50,15 +50,26 @@ pub fn plan_back(a: &[u8], lists: &[u64], live: &[u64], q: usize) -> Plan
 }
 
 // The used block of s grains at x is joined with its free neighbours. The one before it is seen first, as the words of both
-// are then fetched at once.
+// are then fetched at once. What follows is called in two branches, where nobody is before it and where a free block is.
 fn plan_merge(a: &[u8], lists: &[u64], x: usize, s: usize) -> Plan
     requires { ⌜ (1 ≤ s) × (x + s < grains 8 (now a)) × Long (now lists) ⌝ }
     ensures { λ r. ⌜ Planned (now (a .entry)) (now (lists .entry)) (λ q. mergeScript (grains 8 (now (a .entry))) q x s) r ⌝ }
 {
-    let f = neighbours::see_before(a, lists, x);
-    if !f.ok {
+    let before = neighbours::see_before(a, lists, x);
+    if !before.ok {
         return refused(DAMAGED);
     }
+    if before.grains == 0 {
+        return plan_behind(a, lists, x, s, neighbours::nobody(true));
+    }
+    plan_behind(a, lists, x, s, before)
+}
+
+// The same, where f was seen before it.
+fn plan_behind(a: &[u8], lists: &[u64], x: usize, s: usize, f: Beside) -> Plan
+    requires { ⌜ (1 ≤ s) × (x + s < grains 8 (now a)) × Long (now lists) × SeenBefore (now a) (now lists) x f × (f .ok ≡ true) ⌝ }
+    ensures { λ r. ⌜ Planned (now (a .entry)) (now (lists .entry)) (λ q. mergeScript (grains 8 (now (a .entry))) q x s) r ⌝ }
+{
     let e = neighbours::see_behind(a, lists, x + s);
     if !e.ok {
         return refused(DAMAGED);

@@ -2,7 +2,7 @@
 use Prim.Native.Nat.{ℕ, zero, suc, _+_, _*_, _≤_, _<_}
 use native.Mathlib.Omega.{arith}
 use mathlib.Core.Path.{_≡_, refl, ap, sym, _∙_, subst}
-use mathlib.Core.Bool.{Bool}
+use mathlib.Core.Bool.{Bool, true}
 use mathlib.Core.List.{List}
 use mathlib.Core.Logic.{⊎-elim}
 use lib.ListN.{length}
@@ -76,6 +76,12 @@ SeenBefore a l x r = SeenBeside a l (seeBefore (grains 8 a) classes x) r
 -- nobody was seen
 pub seen-nobody : (a l : List ℕ) (S : Script Beside) (b : Bool) (r : BesideAnswer) → r ≡ alone b → ((v t : List ℕ) → shownBeside a (alone b) ≡ run (held a l v t) S) → SeenBeside a l S r
 seen-nobody a l S b r e h = subst (SeenBeside a l S) (sym e) (record { answer = h; list = λ n. absurd (n refl) })
+
+-- a block of no grains was seen, so nobody was
+pub seen-as-nobody : (a l : List ℕ) (S : Script Beside) (f r : BesideAnswer) → SeenBeside a l S f → f .ok ≡ true → f .grains ≡ 0 → r ≡ alone true → SeenBeside a l S r
+seen-as-nobody a l S f r h o g e = seen-nobody a l S true r e (λ v t. sym (
+    ap (λ (b : Bool). answer b (someone (f .grains) (record { next = link a (f .next); prev = link a (f .prev) }))) o
+    ∙ ap (λ (n : ℕ). answer true (someone n (record { next = link a (f .next); prev = link a (f .prev) }))) g) ∙ h .answer v t)
 
 -- a block has grains
 pub someone-is : (t : ℕ) (e : Entry) → 1 ≤ t → someone t e ≡ somebody t e

@@ -179,7 +179,7 @@ fn see_listed(a: &[u8], lists: &[u64], t: usize, y: usize) -> Beside
 }
 
 // The answer with no block.
-fn nobody(ok: bool) -> Beside
+pub fn nobody(ok: bool) -> Beside
     ensures { λ r. ⌜ r ≡ alone ok ⌝ }
 {
     Beside {
