@@ -1,7 +1,7 @@
 -- A plan of the code, as the script answers it: the writes, spelled from the plan's numbers; and what makes them possible.
-use Prim.Native.Nat.{ℕ, _+_, _-_, _<_}
+use Prim.Native.Nat.{ℕ, _+_, _-_, _≤_, _<_}
 use native.Mathlib.Omega.{arith}
-use mathlib.Core.Path.{_≡_, ap, _∙_}
+use mathlib.Core.Path.{_≡_, ap, _∙_, subst}
 use mathlib.Core.List.{List, _++_}
 use lib.ListN.{length}
 use Rattle.bits.specs.Map.{lists}
@@ -13,7 +13,9 @@ use Rattle.sound.specs.Plans.{Plan, roomOf, bothLeave, freeWrites, joinScript, 
 use Rattle.slices.specs.Decode.{grains, grains-keep}
 use Rattle.free_list.specs.Lent.{held, classes, link, Leads, link-keep, leads-keep}
 use Rattle.free_list.specs.Answers.{unless, unless-no}
-use Rattle.neighbours.specs.Leaving.{Known, bothLeaving, known-keep, both-keep}
+use Rattle.neighbours.specs.declared.Neighbour.{Neighbour}
+use Rattle.neighbours.specs.Leaving.{Known, Stands, bothLeaving, known-keep, both-keep}
+use Rattle.neighbours.specs.Within.{Behind}
 use Rattle.deallocate.specs.declared.Plan.{Plan as PlanAnswer}
 
 -- ---- the writes
@@ -63,8 +65,25 @@ able-keep a b r e h = record {
   head = leads-keep a b (r .head) e (h .head);
 }
 
+-- while nothing is written: the joined block, of t grains at z, ends with e, and the words of the one that leaves first, e or
+-- else f, are its links
+pub record Standing (a : List ℕ) (z t : ℕ) (e f : Neighbour) : Type 0 where
+  pub ends : e .grains ≤ t
+  pub behind : Stands a (z + t - e .grains) e
+  pub before : e .grains ≡ 0 → Stands a z f
+
+-- what is asked for writing the plan r then
+abbrev pub AbleHere : List ℕ → PlanAnswer → Type 0
+AbleHere a r = Able a r × Standing a (r .at) (r .grains) (r .behind) (r .before)
+
+-- as e stands behind the block of s grains at x
+pub standing : (a : List ℕ) (x s z t : ℕ) (e f : Neighbour) → Behind a x s e → z ≤ x → z + t ≡ x + (s + e .grains) → (e .grains ≡ 0 → Stands a z f) → Standing a z t e f
+standing a x s z t e f b l i h =
+    let j : x + s ≡ z + t - e .grains = omega arith in
+    record { ends = omega arith; behind = subst (λ (y : ℕ). Stands a y e) j (b .stands); before = h }
+
 -- nothing of a plan that was refused
-pub damaged-unable : (a : List ℕ) (r : PlanAnswer) → r .refusal ≡ 5 → r .refusal ≡ 0 → Able a r
+pub damaged-unable : (a : List ℕ) (r : PlanAnswer) → r .refusal ≡ 5 → r .refusal ≡ 0 → AbleHere a r
 damaged-unable a r e f = absurd (omega arith)
 
 -- ---- the script behind the owner, a used block of s grains at x
@@ -81,9 +100,9 @@ mergeScript n q x s = seeBehind n classes (x + s) >>= beforeScript n q x s
 -- a plan r of the code, for a script S that plans the return of a payload
 pub record Planned (a l : List ℕ) (S : ℕ → Script Plan) (r : PlanAnswer) : Type 0 where
   pub answer : (q : ℕ) (v t : List ℕ) → shown a q r ≡ run (held a l v t) (S q)
-  pub able : r .refusal ≡ 0 → Able a r
+  pub able : r .refusal ≡ 0 → AbleHere a r
 
 -- for the whole script, and the payload at q
 pub record BackPlanned (a l v : List ℕ) (q : ℕ) (r : PlanAnswer) : Type 0 where
   pub answer : (t : List ℕ) → shown a q r ≡ run (held a l v t) (giveBackScript (grains 8 a) classes q)
-  pub able : r .refusal ≡ 0 → Able a r
+  pub able : r .refusal ≡ 0 → AbleHere a r

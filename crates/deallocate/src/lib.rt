@@ -11,7 +11,7 @@ ghost use Rattle.free_list.specs.Lent.{classes, Long};
 ghost use Rattle.neighbours.specs.Leaving.{Known, bothLeaving, behindOf};
 ghost use Rattle.neighbours.specs.Shown.{SeenBefore};
 ghost use Rattle.neighbours.specs.Within.{Behind};
-ghost use Rattle.deallocate.specs.Shown.{backWrites, joinedWrites, Able, Planned, BackPlanned, beforeScript, mergeScript};
+ghost use Rattle.deallocate.specs.Shown.{backWrites, joinedWrites, Able, AbleHere, Standing, Planned, BackPlanned, beforeScript, mergeScript};
 ghost use Rattle.deallocate.specs.Written.{freed};
 use bits::LISTS;
 use header::BEFORE;
@@ -110,7 +110,7 @@ fn plan_join(
     behind: Neighbour,
     before: Neighbour,
 ) -> Plan
-    requires { ⌜ (1 ≤ t) × (z + t < grains 8 (now a)) × Long (now lists) × Known (now a) behind × Known (now a) before ⌝ }
+    requires { ⌜ (1 ≤ t) × (z + t < grains 8 (now a)) × Long (now lists) × Known (now a) behind × Known (now a) before × Standing (now a) z t behind before ⌝ }
     ensures { λ r. ⌜ Planned (now (a .entry)) (now (lists .entry))
         (λ q. joinScript (grains 8 (now (a .entry))) classes q z t (bothLeaving (now (a .entry)) behind before)) r ⌝ }
 {
@@ -151,9 +151,10 @@ fn refused(why: u64) -> Plan
 
 // ---- what is written
 
-// What was planned for the payload at q. Whether each neighbour is there is asked once.
-pub fn apply_back(a: &mut [u8], lists: &mut [u64], live: &mut [u64], q: usize, p: Plan)
-    requires { ⌜ Able (now a) p × Long (now lists) × (q < 64 * length (now live)) ⌝ }
+// What was planned for the payload at q, where nothing was written since: so the words of a neighbour that leaves first are
+// its links. Whether each neighbour is there is asked once.
+pub fn apply_here(a: &mut [u8], lists: &mut [u64], live: &mut [u64], q: usize, p: Plan)
+    requires { ⌜ AbleHere (now a) p × Long (now lists) × (q < 64 * length (now live)) ⌝ }
     ensures { λ r. ⌜ WrittenLive (now (a .entry)) (now (lists .entry)) (now (live .entry)) (backWrites (now (a .entry)) q p)
         (now (a .exit)) (now (lists .exit)) (now (live .exit)) ⌝ }
 {
@@ -162,17 +163,28 @@ pub fn apply_back(a: &mut [u8], lists: &mut [u64], live: &mut [u64], q: usize, p
             put_joined(a, lists, live, q, p);
             return;
         }
-        free_list::unlink(a, lists, p.before.list, p.before.next, p.before.prev);
+        free_list::unlink_at(a, lists, p.before.list, p.before.next, p.before.prev, p.at);
         put_joined(a, lists, live, q, p);
         return;
     }
+    let y = p.at + p.grains - p.behind.grains;
     if p.before.grains == 0 {
-        free_list::unlink(a, lists, p.behind.list, p.behind.next, p.behind.prev);
+        free_list::unlink_at(a, lists, p.behind.list, p.behind.next, p.behind.prev, y);
         put_joined(a, lists, live, q, p);
         return;
     }
-    free_list::unlink(a, lists, p.behind.list, p.behind.next, p.behind.prev);
+    free_list::unlink_at(a, lists, p.behind.list, p.behind.next, p.behind.prev, y);
     free_list::unlink(a, lists, p.before.list, p.before.next, p.before.prev);
+    put_joined(a, lists, live, q, p);
+}
+
+// The same, for a payload that was carried elsewhere first: of the words in the arena nothing is known any more.
+pub fn apply_back(a: &mut [u8], lists: &mut [u64], live: &mut [u64], q: usize, p: Plan)
+    requires { ⌜ Able (now a) p × Long (now lists) × (q < 64 * length (now live)) ⌝ }
+    ensures { λ r. ⌜ WrittenLive (now (a .entry)) (now (lists .entry)) (now (live .entry)) (backWrites (now (a .entry)) q p)
+        (now (a .exit)) (now (lists .exit)) (now (live .exit)) ⌝ }
+{
+    neighbours::leave_both(a, lists, p.behind, p.before);
     put_joined(a, lists, live, q, p);
 }
 

@@ -34,9 +34,9 @@ seeListed n t y = do
   e ← seeEntry n (listOf t) y
   done (somebody t e)
 
--- the answer on t grains at y is that of the script
+-- the answer on t grains at y is that of the script, and a block that is there has so many
 abbrev pub SeenListed : List ℕ → List ℕ → ℕ → ℕ → BesideAnswer → Type 0
-SeenListed a l t y r = SeenBeside a l (seeListed (grains 8 a) t y) r
+SeenListed a l t y r = SeenBeside a l (seeListed (grains 8 a) t y) y r × ((r .grains ≡ 0 → ⊥) → r .grains ≡ t)
 
 module _ (a l v r : List ℕ) (t y k : ℕ) (j : k ≡ listOf t) where
   -- the size has no list

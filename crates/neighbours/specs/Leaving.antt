@@ -11,7 +11,7 @@ use Rattle.sound.specs.Checks.{Entry, Beside, nobody}
 use Rattle.sound.specs.Links.{unlinkWrites}
 use Rattle.sound.specs.Plans.{roomOf, leaves, afterwards, bothLeave}
 use Rattle.slices.specs.Decode.{grains}
-use Rattle.free_list.specs.Lent.{link, Leads, Long, Room, link-keep, leads-keep}
+use Rattle.free_list.specs.Lent.{link, Leads, Long, Room, Holds, link-keep, leads-keep}
 use Rattle.free_list.specs.Written.{Written, written-none, written-then, written-as, written-length}
 use Rattle.neighbours.specs.declared.Beside.{Beside as BesideAnswer}
 use Rattle.neighbours.specs.declared.Neighbour.{Neighbour}
@@ -35,6 +35,15 @@ known-keep a b f e k n = record { list = k n .list; next = leads-keep a b (f .ne
 -- so it can be unlinked, where there is one
 pub can-leave : (a l : List ℕ) (e : Neighbour) → Known a e → (e .grains ≡ 0 → ⊥) → Long l → Room (e .list) l × Leads a (e .next) × Leads a (e .prev)
 can-leave a l e k n o = (record { known = k n .list; room = o }, k n .next, k n .prev)
+
+-- the words of y, where it is, are its links
+abbrev pub Stands : List ℕ → ℕ → Neighbour → Type 0
+Stands a y e = (e .grains ≡ 0 → ⊥) → Holds a y (e .next) (e .prev)
+
+-- so it can be unlinked there
+pub can-leave-at : (a l : List ℕ) (e : Neighbour) (y : ℕ) → Known a e → (e .grains ≡ 0 → ⊥) → Long l → y < grains 8 a → Stands a y e
+    → Room (e .list) l × Leads a (e .next) × Leads a (e .prev) × (y < grains 8 a) × Holds a y (e .next) (e .prev)
+can-leave-at a l e y k n o i h = (record { known = k n .list; room = o }, k n .next, k n .prev, i, h n)
 
 -- ---- one after the other
 

@@ -1,5 +1,5 @@
 -- The code's answers as the scripts give them, and the slices that were lent as the scripts read them.
-use Prim.Native.Nat.{ℕ, zero, suc, _+_, _*_, _≤_, _<_}
+use Prim.Native.Nat.{ℕ, zero, suc, _+_, _-_, _*_, _≤_, _<_}
 use native.Mathlib.Omega.{arith}
 use mathlib.Core.Path.{_≡_, refl, ap, sym, _∙_, subst}
 use mathlib.Core.Bool.{Bool, true}
@@ -16,7 +16,7 @@ use Rattle.slices.specs.Decode.{grains, wrongLink}
 use Rattle.slices.specs.Arena.{linkAt, link-in}
 use Rattle.slices.specs.Slices.{memory-before}
 use Rattle.header.specs.Turned.{turned}
-use Rattle.free_list.specs.Lent.{lent, held, classes, noLink, link, link-grain, link-past}
+use Rattle.free_list.specs.Lent.{lent, held, classes, noLink, link, Holds, link-grain, link-past}
 use Rattle.free_list.specs.Answers.{answer, unless}
 use Rattle.neighbours.specs.declared.Owner.{Owner as OwnerAnswer}
 use Rattle.neighbours.specs.declared.Beside.{Beside as BesideAnswer}
@@ -61,25 +61,27 @@ shownBeside a r = answer (r .ok) (someone (r .grains) (record { next = link a (r
 abbrev pub Listed : ℕ → ℕ → Type 0
 Listed g k = (g ≡ 0 → ⊥) → k ≡ listOf g
 
--- the answer is that of the script S, whatever the other slices hold, and the block's list is that of its size
-pub record SeenBeside (a l : List ℕ) (S : Script Beside) (r : BesideAnswer) : Type 0 where
+-- the answer is that of the script S, whatever the other slices hold; the block's list is that of its size, and its links are
+-- the words of y, where it is
+pub record SeenBeside (a l : List ℕ) (S : Script Beside) (y : ℕ) (r : BesideAnswer) : Type 0 where
   pub answer : (v t : List ℕ) → shownBeside a r ≡ run (held a l v t) S
   pub list : Listed (r .grains) (r .list)
+  pub links : (r .grains ≡ 0 → ⊥) → Holds a y (r .next) (r .prev)
 
 -- on what is behind, at y, and on what is before x
 abbrev pub SeenBehind : List ℕ → List ℕ → ℕ → BesideAnswer → Type 0
-SeenBehind a l y r = SeenBeside a l (seeBehind (grains 8 a) classes y) r
+SeenBehind a l y r = SeenBeside a l (seeBehind (grains 8 a) classes y) y r
 
 abbrev pub SeenBefore : List ℕ → List ℕ → ℕ → BesideAnswer → Type 0
-SeenBefore a l x r = SeenBeside a l (seeBefore (grains 8 a) classes x) r
+SeenBefore a l x r = SeenBeside a l (seeBefore (grains 8 a) classes x) (x - r .grains) r
 
 -- nobody was seen
-pub seen-nobody : (a l : List ℕ) (S : Script Beside) (b : Bool) (r : BesideAnswer) → r ≡ alone b → ((v t : List ℕ) → shownBeside a (alone b) ≡ run (held a l v t) S) → SeenBeside a l S r
-seen-nobody a l S b r e h = subst (SeenBeside a l S) (sym e) (record { answer = h; list = λ n. absurd (n refl) })
+pub seen-nobody : (a l : List ℕ) (S : Script Beside) (y : ℕ) (b : Bool) (r : BesideAnswer) → r ≡ alone b → ((v t : List ℕ) → shownBeside a (alone b) ≡ run (held a l v t) S) → SeenBeside a l S y r
+seen-nobody a l S y b r e h = subst (SeenBeside a l S y) (sym e) (record { answer = h; list = λ n. absurd (n refl); links = λ n. absurd (n refl) })
 
 -- a block of no grains was seen, so nobody was
-pub seen-as-nobody : (a l : List ℕ) (S : Script Beside) (f r : BesideAnswer) → SeenBeside a l S f → f .ok ≡ true → f .grains ≡ 0 → r ≡ alone true → SeenBeside a l S r
-seen-as-nobody a l S f r h o g e = seen-nobody a l S true r e (λ v t. sym (
+pub seen-as-nobody : (a l : List ℕ) (S : Script Beside) (y z : ℕ) (f r : BesideAnswer) → SeenBeside a l S y f → f .ok ≡ true → f .grains ≡ 0 → r ≡ alone true → SeenBeside a l S z r
+seen-as-nobody a l S y z f r h o g e = seen-nobody a l S z true r e (λ v t. sym (
     ap (λ (b : Bool). answer b (someone (f .grains) (record { next = link a (f .next); prev = link a (f .prev) }))) o
     ∙ ap (λ (n : ℕ). answer true (someone n (record { next = link a (f .next); prev = link a (f .prev) }))) g) ∙ h .answer v t)
 

@@ -24,8 +24,8 @@ use Rattle.neighbours.specs.Shown.{shownOwner, someone, Listed, SeenBehi
 use Rattle.neighbours.specs.declared.Owner.{Owner as OwnerAnswer}
 use Rattle.neighbours.specs.declared.Beside.{Beside as BesideAnswer}
 use Rattle.neighbours.specs.declared.Neighbour.{Neighbour}
-use Rattle.neighbours.specs.After.{relinked, headed}
-use Rattle.neighbours.specs.Leaving.{Linked, Known, headedBoth, firstOf, secondOf}
+use Rattle.neighbours.specs.After.{relinked, headed, relinked-nobody}
+use Rattle.neighbours.specs.Leaving.{Linked, Known, Stands, headedBoth, firstOf, secondOf}
 
 -- ---- the block
 
@@ -96,19 +96,20 @@ pub record Behind (a : List ℕ) (x s : ℕ) (e : Neighbour) : Type 0 where
   pub inside : x + (s + e .grains) < grains 8 a
   pub list : Listed (e .grains) (e .list)
   pub known : Known a e
+  pub stands : Stands a (x + s) e
 
 -- as it was seen there
 pub behind-seen : (a l : List ℕ) (x s : ℕ) (e : BesideAnswer) → SeenBehind a l (x + s) e → length a < 18446744073709551616 → x + s < grains 8 a → e .ok ≡ true → Behind a x s (firstOf e)
 behind-seen a l x s e z t h c =
     let w = behind-within a l [] [] t (x + s) e h z c in
-    record { inside = omega (arith, w .0); list = z .list; known = w .1 }
+    record { inside = omega (arith, w .0); list = z .list; known = w .1; stands = z .links }
 
 -- nobody can always leave
 pub known-nobody : (a : List ℕ) (e : Neighbour) → e .grains ≡ 0 → Known a e
 known-nobody a e n m = absurd (m n)
 
 pub behind-none : (a : List ℕ) (x s : ℕ) (e : Neighbour) → x + s < grains 8 a → e .grains ≡ 0 → Behind a x s e
-behind-none a x s e h n = record { inside = omega arith; list = λ m. absurd (m n); known = known-nobody a e n }
+behind-none a x s e h n = record { inside = omega arith; list = λ m. absurd (m n); known = known-nobody a e n; stands = λ m. absurd (m n) }
 
 -- the second, after the first
 pub known-second : (a : List ℕ) (e : Neighbour) (f : BesideAnswer) (z : ℕ) → Known a e → Known a (firstOf f) → Known a (secondOf e z f)
@@ -117,6 +118,13 @@ known-second a e f z i j n = record {
   next = relinked-leads a (e .grains) (e .prev) (32 * z) (e .next) (f .next) (λ m. i m .next) (j n .next);
   prev = relinked-leads a (e .grains) (e .next) (32 * z) (e .prev) (f .prev) (λ m. i m .prev) (j n .prev);
 }
+
+-- which changes nothing of it, where nobody was first
+pub second-stands : (a : List ℕ) (e : Neighbour) (f : BesideAnswer) (y z : ℕ) → e .grains ≡ 0 → Stands a y (firstOf f) → Stands a y (secondOf e z f)
+second-stands a e f y z n h m = (
+  h m .0 ∙ relinked-nobody (e .grains) (e .prev) (32 * z) (e .next) (f .next) n,
+  h m .1 ∙ relinked-nobody (e .grains) (e .next) (32 * z) (e .prev) (f .prev) n,
+)
 
 -- the head of a list leads, when both left
 pub both-leads : (a : List ℕ) (e f : Neighbour) (k h : ℕ) → Known a e → Known a f → Leads a h → Leads a (headedBoth e f k h)

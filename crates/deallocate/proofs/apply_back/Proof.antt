@@ -1,12 +1,19 @@
--- `deallocate::apply_back`: the neighbours that are there leave, and the joined block is put; none of it changes a length.
-use Rattle.neighbours.specs.Leaving.{can-leave, left-nobody, left-list, both-left}
+-- `deallocate::apply_back`: the neighbours leave, and the joined block is put; none of it changes a length.
+use Rattle.neighbours.specs.Leaving.{bothLeaving}
 use Rattle.deallocate.specs.Written.{able-after, joined-after}
 use borrow.Author.Needs.{needs}
 use Rattle.deallocate.proofs.apply_back.Statement.{statement}
 use Rattle.deallocate.proofs.apply_back.Tie as tie
 
+leave-both-requires : tie.Need-leave-both-requires
+leave-both-requires c κs = let s = c .before .before .before .before .before in (s .pre .0 .behind, s .pre .0 .before, s .pre .1)
+
 put-joined-requires : tie.Need-put-joined-requires
-put-joined-requires c κs = search needs
+put-joined-requires c κs =
+    let u = c .before .before .before .before .before .before .before in
+    let s = u .before .before .before .before .before .before in
+    let k = able-after {w = bothLeaving (s .args .a .now) (s .args .p .behind) (s .args .p .before)} (s .args .p) (u .leave-both .ensures) (s .pre .0) (s .pre .1) in
+    (k .0, k .1, s .pre .2)
 
 same-length : tie.Need-same-length
 same-length c = search needs
@@ -20,144 +27,17 @@ same-length-3 c = search needs
 returns : tie.Need-returns
 returns c =
     let j = c .before .before .before .before .before .before in
-    let f = j .before .before .before .before in
-    let e = f .before .before in
-    let s = e .before .before .before .before .before .args in
-    joined-after (s .q) (s .p)
-    (both-left (s .p .behind) (s .p .before) (left-nobody (s .a .now) (s .lists .now) (s .p .behind) (e .if1 .taken)) (left-nobody (s .a .now) (s .lists .now) (s .p .before) (f .if2 .taken)))
-    (j .put-joined .ensures)
-
-unlink-requires : tie.Need-unlink-requires
-unlink-requires c κs =
-    let s = c .before .before .before .before .before .before .before .before .before in
-    can-leave (s .args .a .now) (s .args .lists .now) (s .args .p .before) (s .pre .0 .before) (c .before .before .if2 .left) (s .pre .1)
-
-put-joined-requires-2 : tie.Need-put-joined-requires-2
-put-joined-requires-2 c κs =
-    let u = c .before .before .before .before .before .before .before in
-    let s = u .before .before .before .before .before .before .before .before .before .before in
-    let k = able-after (s .args .p) (u .unlink .ensures) (s .pre .0) (s .pre .1) in
-    (k .0, k .1, s .pre .2)
-
-same-length-4 : tie.Need-same-length-4
-same-length-4 c = search needs
-
-same-length-5 : tie.Need-same-length-5
-same-length-5 c = search needs
-
-same-length-6 : tie.Need-same-length-6
-same-length-6 c = search needs
-
-returns-2 : tie.Need-returns-2
-returns-2 c =
-    let j = c .before .before .before .before .before .before in
     let u = j .before .before .before .before .before .before .before .before in
-    let f = u .before .before .before in
-    let e = f .before .before in
-    let s = e .before .before .before .before .before .args in
-    joined-after (s .q) (s .p)
-    (both-left (s .p .behind) (s .p .before) (left-nobody (s .a .now) (s .lists .now) (s .p .behind) (e .if1 .taken)) (left-list (s .a .now) (s .lists .now) _ _ (s .p .before) (f .if2 .left) (u .unlink .ensures)))
-    (j .put-joined2 .ensures)
-
-unlink-requires-2 : tie.Need-unlink-requires-2
-unlink-requires-2 c κs =
-    let s = c .before .before .before .before .before .before .before .before .before in
-    can-leave (s .args .a .now) (s .args .lists .now) (s .args .p .behind) (s .pre .0 .behind) (c .before .before .before .before .if1 .left) (s .pre .1)
-
-put-joined-requires-3 : tie.Need-put-joined-requires-3
-put-joined-requires-3 c κs =
-    let u = c .before .before .before .before .before .before .before in
-    let s = u .before .before .before .before .before .before .before .before .before .before in
-    let k = able-after (s .args .p) (u .unlink2 .ensures) (s .pre .0) (s .pre .1) in
-    (k .0, k .1, s .pre .2)
-
-same-length-7 : tie.Need-same-length-7
-same-length-7 c = search needs
-
-same-length-8 : tie.Need-same-length-8
-same-length-8 c = search needs
-
-same-length-9 : tie.Need-same-length-9
-same-length-9 c = search needs
-
-returns-3 : tie.Need-returns-3
-returns-3 c =
-    let j = c .before .before .before .before .before .before in
-    let u = j .before .before .before .before .before .before .before .before in
-    let f = u .before .before .before in
-    let e = f .before .before in
-    let s = e .before .before .before .before .before .args in
-    joined-after (s .q) (s .p)
-    (both-left (s .p .behind) (s .p .before) (left-list (s .a .now) (s .lists .now) _ _ (s .p .behind) (e .if1 .left) (u .unlink2 .ensures)) (left-nobody _ _ (s .p .before) (f .if3 .taken)))
-    (j .put-joined3 .ensures)
-
-unlink-requires-3 : tie.Need-unlink-requires-3
-unlink-requires-3 c κs =
-    let s = c .before .before .before .before .before .before .before .before .before in
-    can-leave (s .args .a .now) (s .args .lists .now) (s .args .p .behind) (s .pre .0 .behind) (c .before .before .before .before .if1 .left) (s .pre .1)
-
-unlink-requires-4 : tie.Need-unlink-requires-4
-unlink-requires-4 c κs =
-    let u = c .before .before .before .before .before .before in
-    let s = u .before .before .before .before .before .before .before .before .before .before in
-    let k = able-after (s .args .p) (u .unlink3 .ensures) (s .pre .0) (s .pre .1) in
-    can-leave _ _ (s .args .p .before) (k .0 .before) (u .before .before .before .if3 .left) (k .1)
-
-put-joined-requires-4 : tie.Need-put-joined-requires-4
-put-joined-requires-4 c κs =
-    let w = c .before .before .before .before .before .before .before in
-    let u = w .before .before .before .before .before .before .before in
-    let s = u .before .before .before .before .before .before .before .before .before .before in
-    let k = able-after (s .args .p) (u .unlink3 .ensures) (s .pre .0) (s .pre .1) in
-    let o = able-after (s .args .p) (w .unlink4 .ensures) (k .0) (k .1) in
-    (o .0, o .1, s .pre .2)
-
-same-length-10 : tie.Need-same-length-10
-same-length-10 c = search needs
-
-same-length-11 : tie.Need-same-length-11
-same-length-11 c = search needs
-
-same-length-12 : tie.Need-same-length-12
-same-length-12 c = search needs
-
-returns-4 : tie.Need-returns-4
-returns-4 c =
-    let j = c .before .before .before .before .before .before in
-    let w = j .before .before .before .before .before .before .before .before in
-    let u = w .before .before .before .before .before .before .before in
-    let f = u .before .before .before in
-    let e = f .before .before in
-    let s = e .before .before .before .before .before .args in
-    joined-after (s .q) (s .p)
-    (both-left (s .p .behind) (s .p .before) (left-list (s .a .now) (s .lists .now) _ _ (s .p .behind) (e .if1 .left) (u .unlink3 .ensures)) (left-list _ _ _ _ (s .p .before) (f .if3 .left) (w .unlink4 .ensures)))
-    (j .put-joined4 .ensures)
+    let s = u .before .before .before .before .before .before .args in
+    joined-after (s .q) (s .p) (u .leave-both .ensures) (j .put-joined .ensures)
 
 pub apply-back-spec : {M : Type 1} → statement M
 apply-back-spec =
     tie.close
     (tie.spec
+    leave-both-requires
     put-joined-requires
     same-length
     same-length-2
     same-length-3
-    returns
-    unlink-requires
-    put-joined-requires-2
-    same-length-4
-    same-length-5
-    same-length-6
-    returns-2
-    unlink-requires-2
-    put-joined-requires-3
-    same-length-7
-    same-length-8
-    same-length-9
-    returns-3
-    unlink-requires-3
-    unlink-requires-4
-    put-joined-requires-4
-    same-length-10
-    same-length-11
-    same-length-12
-    returns-4)
+    returns)

@@ -1,11 +1,12 @@
 -- `deallocate::plan_both`: the block before is planned as it will be when the one behind left.
-use Prim.Native.Nat.{_≤_}
+use Prim.Native.Nat.{_-_, _≤_}
 use native.Mathlib.Omega.{arith}
-use mathlib.Core.Path.{sym, _∙_, subst}
+use mathlib.Core.Path.{refl, sym, _∙_, subst}
 use mathlib.Core.List.{[]}
 use Rattle.header.specs.Turned.{grains-few}
-use Rattle.neighbours.specs.Leaving.{Known, firstOf}
-use Rattle.neighbours.specs.Within.{before-within, known-second, known-nobody}
+use Rattle.neighbours.specs.Leaving.{Known, Stands, firstOf}
+use Rattle.neighbours.specs.Within.{before-within, known-second, second-stands, known-nobody}
+use Rattle.deallocate.specs.Shown.{standing}
 use Rattle.deallocate.specs.Join.{before-joined, before-alone}
 use borrow.Author.Needs.{needs}
 use Rattle.deallocate.proofs.plan_both.Statement.{statement}
@@ -24,7 +25,15 @@ no-neighbour-requires c κs = search needs
 plan-join-requires : tie.Need-plan-join-requires
 plan-join-requires c κs =
     let s = c .before .before .before .before .before .before in
-    (omega (arith, s .pre .0), s .pre .1 .inside, s .pre .2, s .pre .1 .known, known-nobody (s .args .a .now) (c .no-neighbour .result) (c .no-neighbour .ensures))
+    let a = s .args .a .now in
+    let n = c .no-neighbour .result in (
+      omega (arith, s .pre .0),
+      s .pre .1 .inside,
+      s .pre .2,
+      s .pre .1 .known,
+      known-nobody a n (c .no-neighbour .ensures),
+      standing a (s .args .x) (s .args .s) _ _ (s .args .behind) n (s .pre .1) (omega arith) refl (λ _ m. absurd (m (c .no-neighbour .ensures))),
+    )
 
 returns : tie.Need-returns
 returns c =
@@ -52,12 +61,16 @@ plan-join-requires-2 : tie.Need-plan-join-requires-2
 plan-join-requires-2 c κs =
     let o = c .before in
     let s = o .before .before .before .before .before .before .before in
-    let a = s .args .a .now in (
+    let a = s .args .a .now in
+    let e = s .args .behind in
+    let f = s .args .f in (
       omega (arith, s .pre .0),
       omega (arith, before s .0, s .pre .1 .inside),
       s .pre .2,
       s .pre .1 .known,
-      subst (Known a) (sym (o .second .ensures)) (known-second a (s .args .behind) (s .args .f) _ (s .pre .1 .known) (before s .1)),
+      subst (Known a) (sym (o .second .ensures)) (known-second a e f _ (s .pre .1 .known) (before s .1)),
+      standing a (s .args .x) (s .args .s) _ _ e (o .second .result) (s .pre .1) (omega arith) (omega (arith, before s .0))
+          (λ n. subst (Stands a (s .args .x - f .grains)) (sym (o .second .ensures)) (second-stands a e f _ _ n (s .pre .3 .links))),
     )
 
 returns-2 : tie.Need-returns-2

@@ -64,14 +64,17 @@ returns-3 c =
       answer = λ q v u. joined a (s .lists .now) v u q (s .z) (s .t) n (bothLeaving a (s .behind) (s .before)) (k .map-floor .ensures) (d .before .if1 .left)
           h (d .see-head .ensures v u) g (c .head-after-both .result)
           (ap (link a) (c .head-after-both .ensures) ∙ head-both a (s .behind) (s .before) n (h .word) (i .good .0 .0) (i .pre .3) (i .pre .4));
-      able = λ _. record {
-        behind = i .pre .3;
-        before = i .pre .4;
-        inside = i .pre .1;
-        list = d .before .if1 .left;
-        head = subst (Leads a) (sym (c .head-after-both .ensures))
-            (both-leads a (s .behind) (s .before) n (h .word) (i .pre .3) (i .pre .4) (head-leads a (s .lists .now) n h (i .good .0 .0) (d .see-head .ensures) g));
-      };
+      able = λ _. (
+        record {
+          behind = i .pre .3;
+          before = i .pre .4;
+          inside = i .pre .1;
+          list = d .before .if1 .left;
+          head = subst (Leads a) (sym (c .head-after-both .ensures))
+              (both-leads a (s .behind) (s .before) n (h .word) (i .pre .3) (i .pre .4) (head-leads a (s .lists .now) n h (i .good .0 .0) (d .see-head .ensures) g));
+        },
+        i .pre .5,
+      );
     }
 
 pub plan-join-spec : {M : Type 1} → statement M

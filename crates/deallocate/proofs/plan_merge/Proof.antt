@@ -36,7 +36,7 @@ plan-behind-requires c κs =
       s .pre .0,
       s .pre .1,
       s .pre .2,
-      seen-as-nobody _ _ _ (f .see-before .result) (c .nobody .result) (f .see-before .ensures) (not-false _ (o .if1 .left)) (c .before .if2 .taken) (c .nobody .ensures),
+      seen-as-nobody _ _ _ _ _ (f .see-before .result) (c .nobody .result) (f .see-before .ensures) (not-false _ (o .if1 .left)) (c .before .if2 .taken) (c .nobody .ensures),
       ap (λ (r : Beside). r .ok) (c .nobody .ensures),
     )
 

@@ -1,5 +1,8 @@
 -- `neighbours::see_before`: each return is one step of the script.
+use Prim.Native.Nat.{ℕ, _-_}
 use native.Mathlib.Omega.{arith}
+use mathlib.Core.Path.{_≡_, subst}
+use Rattle.free_list.specs.Lent.{Holds}
 use Rattle.header.specs.Turned.{grains-few}
 use Rattle.neighbours.specs.Shown.{seen-nobody}
 use Rattle.neighbours.specs.Beside.{before-none, before-out, before-used, before-apart, before-listed}
@@ -17,7 +20,7 @@ returns : tie.Need-returns
 returns c =
     let w = c .before .before in
     let s = w .before .before .before in
-    seen-nobody _ _ _ _ (c .nobody .result) (c .nobody .ensures) λ v t.
+    seen-nobody _ _ _ _ _ (c .nobody .result) (c .nobody .ensures) λ v t.
     before-none (s .args .a .now) (s .args .lists .now) v t (s .args .x) (w .field .result) (s .good .0 .0) (s .pre .0) (w .field .ensures) (c .before .if1 .taken)
 
 grain-of-requires : tie.Need-grain-of-requires
@@ -31,7 +34,7 @@ returns-2 c =
     let g = c .before .before in
     let w = g .before .before in
     let s = w .before .before .before in
-    seen-nobody _ _ _ _ (c .nobody2 .result) (c .nobody2 .ensures) λ v t.
+    seen-nobody _ _ _ _ _ (c .nobody2 .result) (c .nobody2 .ensures) λ v t.
     before-out (s .args .a .now) (s .args .lists .now) v t (s .args .x) (w .field .result) (s .good .0 .0) (s .pre .0) (w .field .ensures) (g .before .if1 .left)
     (g .grain-of .result) (g .grain-of .ensures) (c .before .if2 .taken)
 
@@ -59,7 +62,7 @@ returns-3 c =
     let g = u .before .before in
     let w = g .before .before in
     let s = w .before .before .before in
-    seen-nobody _ _ _ _ (c .nobody3 .result) (c .nobody3 .ensures) λ v t.
+    seen-nobody _ _ _ _ _ (c .nobody3 .result) (c .nobody3 .ensures) λ v t.
     before-used (s .args .a .now) (s .args .lists .now) v t (s .args .x) (w .field .result) (s .good .0 .0) (s .pre .0) (w .field .ensures) (g .before .if1 .left)
     (g .grain-of .result) (g .grain-of .ensures) (u .before .if2 .left) (u .field2 .result) (b .bytes-of .result) (u .field2 .ensures) (b .bytes-of .ensures) (c .before .if3 .taken)
 
@@ -74,7 +77,7 @@ returns-4 c =
     let g = u .before .before in
     let w = g .before .before in
     let s = w .before .before .before in
-    seen-nobody _ _ _ _ (c .nobody4 .result) (c .nobody4 .ensures) λ v t.
+    seen-nobody _ _ _ _ _ (c .nobody4 .result) (c .nobody4 .ensures) λ v t.
     before-apart (s .args .a .now) (s .args .lists .now) v t (s .args .x) (w .field .result) (s .good .0 .0) (s .pre .0) (w .field .ensures) (g .before .if1 .left)
     (g .grain-of .result) (g .grain-of .ensures) (u .before .if2 .left) (u .field2 .result) (b .bytes-of .result) (u .field2 .ensures) (b .bytes-of .ensures) (d .if3 .left) (c .before .if4 .taken)
 
@@ -90,8 +93,11 @@ returns-5 c =
     let s = w .before .before .before in record {
       answer = λ v t. before-listed (s .args .a .now) (s .args .lists .now) v t (s .args .x) (w .field .result) (s .good .0 .0) (s .pre .0) (w .field .ensures) (g .before .if1 .left)
           (g .grain-of .result) (g .grain-of .ensures) (u .before .if2 .left) (u .field2 .result) (b .bytes-of .result) (u .field2 .ensures) (b .bytes-of .ensures) (c .before .if4 .left)
-          (c .see-listed .ensures .answer v t);
-      list = c .see-listed .ensures .list;
+          (c .see-listed .ensures .0 .answer v t);
+      list = c .see-listed .ensures .0 .list;
+      links = λ n.
+          let e : g .grain-of .result ≡ s .args .x - c .see-listed .result .grains = omega (arith, c .see-listed .ensures .1 n, u .before .if2 .left) in
+          subst (λ (y : ℕ). Holds (s .args .a .now) y (c .see-listed .result .next) (c .see-listed .result .prev)) e (c .see-listed .ensures .0 .links n);
     }
 
 pub see-before-spec : {M : Type 1} → statement M

@@ -33,7 +33,7 @@ returns c =
     let b = c .before in
     let f = b .before .before in
     let s = f .before .before .before .args in
-    seen-nobody _ _ _ _ (c .nobody .result) (c .nobody .ensures) λ v t.
+    seen-nobody _ _ _ _ _ (c .nobody .result) (c .nobody .ensures) λ v t.
     behind-busy (s .a .now) (s .lists .now) v t (s .y) (f .free-at .result) (f .free-at .ensures) (b .before .if1 .taken) (b .is-busy .result) (b .is-busy .ensures)
 
 add-is-busy : tie.Need-add-is-busy
@@ -50,7 +50,7 @@ returns-2 c =
     let b = c .before .before in
     let d = b .before in
     let s = d .before .before .before .before .args in
-    seen-nobody _ _ _ _ (c .nobody2 .result) (c .nobody2 .ensures) λ v t.
+    seen-nobody _ _ _ _ _ (c .nobody2 .result) (c .nobody2 .ensures) λ v t.
     behind-idle (s .a .now) (s .lists .now) v t (s .y) (d .before .free-at .result) (d .before .free-at .ensures) (d .if1 .left)
     (sym (not-true _ (c .before .if2 .taken)) ∙ b .is-busy2 .ensures)
 
@@ -69,7 +69,7 @@ returns-3 c =
     let b = e .before .before in
     let d = b .before in
     let s = d .before .before .before .before .args in
-    seen-nobody _ _ _ _ (c .nobody3 .result) (c .nobody3 .ensures) λ v t.
+    seen-nobody _ _ _ _ _ (c .nobody3 .result) (c .nobody3 .ensures) λ v t.
     behind-torn (s .a .now) (s .lists .now) v t (s .y) (d .before .free-at .result) (d .before .free-at .ensures) (d .if1 .left)
     (sym (not-false _ (e .before .if2 .left)) ∙ b .is-busy2 .ensures)
     (says-no _ (e .leads .result) (e .leads .ensures) (not-true _ (c .before .if3 .taken)))
@@ -89,8 +89,9 @@ returns-4 c =
       answer = λ v t. behind-listed (s .a .now) (s .lists .now) v t (s .y) (d .before .free-at .result) (d .before .free-at .ensures) (d .if1 .left)
           (sym (not-false _ (e .before .if2 .left)) ∙ b .is-busy2 .ensures)
           (says-yes _ (e .leads .result) (e .leads .ensures) (not-false _ (c .before .if3 .left)))
-          (c .see-listed .ensures .answer v t);
-      list = c .see-listed .ensures .list;
+          (c .see-listed .ensures .0 .answer v t);
+      list = c .see-listed .ensures .0 .list;
+      links = c .see-listed .ensures .0 .links;
     }
 
 pub see-behind-spec : {M : Type 1} → statement M

@@ -40,7 +40,7 @@ apply-back-requires c κs =
     let i = m .before .before in
     let p = i .before .before in
     let s = p .before .before .before .before .before .before .before in
-    (able-keep (s .args .a .now) _ (p .plan-back .result) (m .move-halves .kept .0) (p .plan-back .ensures .able (i .if1 .left)), s .pre .1, s .pre .2)
+    (able-keep (s .args .a .now) _ (p .plan-back .result) (m .move-halves .kept .0) (p .plan-back .ensures .able (i .if1 .left) .0), s .pre .1, s .pre .2)
 
 same-length-4 : tie.Need-same-length-4
 same-length-4 c = search needs
