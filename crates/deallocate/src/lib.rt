@@ -151,8 +151,8 @@ fn refused(why: u64) -> Plan
 
 // ---- what is written
 
-// What was planned for the payload at q, where nothing was written since: so the words of a neighbour that leaves first are
-// its links. Whether each neighbour is there is asked once.
+// What was planned for the payload at q, where nothing was written since: so the words of a neighbour are its links, and one
+// that leaves alone does so without a jump. Where both leave, which is seldom, the jumps make the longest path shorter.
 pub fn apply_here(a: &mut [u8], lists: &mut [u64], live: &mut [u64], q: usize, p: Plan)
     requires { ⌜ AbleHere (now a) p × Long (now lists) × (q < 64 * length (now live)) ⌝ }
     ensures { λ r. ⌜ WrittenLive (now (a .entry)) (now (lists .entry)) (now (live .entry)) (backWrites (now (a .entry)) q p)
@@ -167,18 +167,16 @@ pub fn apply_here(a: &mut [u8], lists: &mut [u64], live: &mut [u64], q: usize, p
         put_joined(a, lists, live, q, p);
         return;
     }
-    let y = p.at + p.grains - p.behind.grains;
     if p.before.grains == 0 {
+        let y = p.at + p.grains - p.behind.grains;
         free_list::unlink_at(a, lists, p.behind.list, p.behind.next, p.behind.prev, y);
         put_joined(a, lists, live, q, p);
         return;
     }
-    free_list::unlink_at(a, lists, p.behind.list, p.behind.next, p.behind.prev, y);
-    free_list::unlink(a, lists, p.before.list, p.before.next, p.before.prev);
-    put_joined(a, lists, live, q, p);
+    apply_back(a, lists, live, q, p);
 }
 
-// The same, for a payload that was carried elsewhere first: of the words in the arena nothing is known any more.
+// The same, whatever was written since, such as a payload that was carried elsewhere: nothing is known of the words.
 pub fn apply_back(a: &mut [u8], lists: &mut [u64], live: &mut [u64], q: usize, p: Plan)
     requires { ⌜ Able (now a) p × Long (now lists) × (q < 64 * length (now live)) ⌝ }
     ensures { λ r. ⌜ WrittenLive (now (a .entry)) (now (lists .entry)) (now (live .entry)) (backWrites (now (a .entry)) q p)

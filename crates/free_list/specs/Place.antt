@@ -117,9 +117,9 @@ module _ (a : List ℕ) (h y p : ℕ) (s : length a < 18446744073709551616) (i :
     placed-apart g e q w = ⊎-elim
         (λ (z : p ≡ noLink). orphan z (λ u. differ (eqb h b) (eqb p noLink) w (eq-eqb h b u ∙ sym (eq-eqb p noLink z))))
         (λ (n : p ≡ noLink → ⊥). ⊎-elim
-            (λ (u : h ≡ b). placed-twice n g e q b d u)
-            (λ (u : h ≡ b → ⊥). absurd (differ (eqb h b) (eqb p noLink) w (ne-eqb h b u ∙ sym (ne-eqb p noLink n))))
-            (same? h b))
+        (λ (u : h ≡ b). placed-twice n g e q b d u)
+        (λ (u : h ≡ b → ⊥). absurd (differ (eqb h b) (eqb p noLink) w (ne-eqb h b u ∙ sym (ne-eqb p noLink n))))
+        (same? h b))
         (same? p noLink)
 
     -- it is one of both: what is before it, if anything, has to lead to it

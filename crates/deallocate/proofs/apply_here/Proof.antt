@@ -1,7 +1,7 @@
--- `deallocate::apply_here`: the neighbours that are there leave, and the joined block is put; none of it changes a length.
+-- `deallocate::apply_here`: a neighbour that is there leaves, and the joined block is put; none of it changes a length.
 use native.Mathlib.Omega.{arith}
 use Rattle.header.specs.Turned.{grains-few}
-use Rattle.neighbours.specs.Leaving.{can-leave, can-leave-at, left-nobody, left-list, both-left}
+use Rattle.neighbours.specs.Leaving.{can-leave-at, left-nobody, left-list, both-left}
 use Rattle.deallocate.specs.Written.{able-after, joined-after}
 use borrow.Author.Needs.{needs}
 use Rattle.deallocate.proofs.apply_here.Statement.{statement}
@@ -63,10 +63,10 @@ returns-2 c =
     (j .put-joined2 .ensures)
 
 add-y : tie.Need-add-y
-add-y c = let s = c .before .before .before .before .before .before in omega (arith, s .pre .0 .0 .inside, grains-few (s .args .a .now) (s .good .0 .0))
+add-y c = let s = c .before .before .before .before .before .before .before .before in omega (arith, s .pre .0 .0 .inside, grains-few (s .args .a .now) (s .good .0 .0))
 
 sub-y : tie.Need-sub-y
-sub-y c = let s = c .before .before .before .before .before .before .before in omega (arith, s .pre .0 .1 .ends)
+sub-y c = let s = c .before .before .before .before .before .before .before .before .before in omega (arith, s .pre .0 .1 .ends)
 
 unlink-at-requires-2 : tie.Need-unlink-at-requires-2
 unlink-at-requires-2 c κs =
@@ -94,34 +94,15 @@ returns-3 : tie.Need-returns-3
 returns-3 c =
     let j = c .before .before .before .before .before .before in
     let u = j .before .before .before .before .before .before .before .before in
-    let f = u .before .before .before in
-    let e = f .before .before .before .before in
+    let f = u .before .before .before .before .before in
+    let e = f .before .before in
     let s = e .before .before .before .before .before .args in
     joined-after (s .q) (s .p)
     (both-left (s .p .behind) (s .p .before) (left-list (s .a .now) (s .lists .now) _ _ (s .p .behind) (e .if1 .left) (u .unlink-at2 .ensures)) (left-nobody _ _ (s .p .before) (f .if3 .taken)))
     (j .put-joined3 .ensures)
 
-unlink-at-requires-3 : tie.Need-unlink-at-requires-3
-unlink-at-requires-3 c κs =
-    let s = c .before .before .before .before .before .before .before .before .before .before .before in
-    can-leave-at (s .args .a .now) (s .args .lists .now) (s .args .p .behind) _ (s .pre .0 .0 .behind) (c .before .before .before .before .before .before .if1 .left) (s .pre .1)
-    (omega (arith, s .pre .0 .0 .inside)) (s .pre .0 .1 .behind)
-
-unlink-requires : tie.Need-unlink-requires
-unlink-requires c κs =
-    let u = c .before .before .before .before .before .before in
-    let s = u .before .before .before .before .before .before .before .before .before .before .before .before in
-    let k = able-after (s .args .p) (u .unlink-at3 .ensures) (s .pre .0 .0) (s .pre .1) in
-    can-leave _ _ (s .args .p .before) (k .0 .before) (u .before .before .before .if3 .left) (k .1)
-
-put-joined-requires-4 : tie.Need-put-joined-requires-4
-put-joined-requires-4 c κs =
-    let w = c .before .before .before .before .before .before .before in
-    let u = w .before .before .before .before .before .before .before in
-    let s = u .before .before .before .before .before .before .before .before .before .before .before .before in
-    let k = able-after (s .args .p) (u .unlink-at3 .ensures) (s .pre .0 .0) (s .pre .1) in
-    let o = able-after (s .args .p) (w .unlink .ensures) (k .0) (k .1) in
-    (o .0, o .1, s .pre .2)
+apply-back-requires : tie.Need-apply-back-requires
+apply-back-requires c κs = let s = c .before .before .before .before .before .before .before .before .before .before in (s .pre .0 .0, s .pre .1, s .pre .2)
 
 same-length-10 : tie.Need-same-length-10
 same-length-10 c = search needs
@@ -133,16 +114,7 @@ same-length-12 : tie.Need-same-length-12
 same-length-12 c = search needs
 
 returns-4 : tie.Need-returns-4
-returns-4 c =
-    let j = c .before .before .before .before .before .before in
-    let w = j .before .before .before .before .before .before .before .before in
-    let u = w .before .before .before .before .before .before .before in
-    let f = u .before .before .before in
-    let e = f .before .before .before .before in
-    let s = e .before .before .before .before .before .args in
-    joined-after (s .q) (s .p)
-    (both-left (s .p .behind) (s .p .before) (left-list (s .a .now) (s .lists .now) _ _ (s .p .behind) (e .if1 .left) (u .unlink-at3 .ensures)) (left-list _ _ _ _ (s .p .before) (f .if3 .left) (w .unlink .ensures)))
-    (j .put-joined4 .ensures)
+returns-4 c = c .before .before .before .before .before .before .apply-back .ensures
 
 pub apply-here-spec : {M : Type 1} → statement M
 apply-here-spec =
@@ -167,9 +139,7 @@ apply-here-spec =
     same-length-8
     same-length-9
     returns-3
-    unlink-at-requires-3
-    unlink-requires
-    put-joined-requires-4
+    apply-back-requires
     same-length-10
     same-length-11
     same-length-12
