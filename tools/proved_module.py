@@ -19,7 +19,7 @@ KEPT = os.path.join(TOP, 'target/archive')
 INLINED = ['-mllvm', '-inline-threshold=10000', '-mllvm', '-inline-cold-callsite-threshold=10000']
 
 # A loop that fills or copies stays a loop, and does not become a call of memset, memcpy or memmove. Nor does it become several,
-# by whether what is read and written overlaps, or by how often it turns: docs/SPEED.md says what either costs.
+# by whether what is read and written overlaps, or by how often it turns: docs/SPEED.md says what each brings.
 LOOPS = ['-mllvm', '-disable-loop-idiom-all', '-fno-vectorize', '-fno-unroll-loops']
 
 # What several paths end with stays in each of them: the cases of a return, which are told apart once, are not joined again.

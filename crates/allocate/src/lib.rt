@@ -88,8 +88,7 @@ pub fn plan_take(a: &[u8], lists: &[u64], length: usize, multiple: usize) -> Pla
     )
 }
 
-// The same, where the first block of the list was seen. Whether what is next leads back to it is asked last: the writes ask
-// first whether anything is next, so the compiler makes one test of both.
+// The same, where the first block of the list was seen. Whether what is next leads back to it is asked last.
 fn cut(
     a: &[u8],
     lists: &[u64],

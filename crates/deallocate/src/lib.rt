@@ -50,7 +50,8 @@ pub fn plan_back(a: &[u8], lists: &[u64], live: &[u64], q: usize) -> Plan
 }
 
 // The used block of s grains at x is joined with its free neighbours. The one before it is seen first, as the words of both
-// are then fetched at once. What follows is called in two branches, where nobody is before it and where a free block is.
+// are then fetched at once. What follows is called in two branches, where nobody is before it and where a free block is, so
+// that neither asks for it again.
 fn plan_merge(a: &[u8], lists: &[u64], x: usize, s: usize) -> Plan
     requires { ⌜ (1 ≤ s) × (x + s < grains 8 (now a)) × Long (now lists) ⌝ }
     ensures { λ r. ⌜ Planned (now (a .entry)) (now (lists .entry)) (λ q. mergeScript (grains 8 (now (a .entry))) q x s) r ⌝ }
@@ -153,7 +154,7 @@ fn refused(why: u64) -> Plan
 
 // What was planned for the payload at q, where nothing was written since: so the words of a neighbour are its links, and one
 // that leaves alone does so without a jump. Where both leave, which is seldom, the jumps make the longest path shorter.
-pub fn apply_here(a: &mut [u8], lists: &mut [u64], live: &mut [u64], q: usize, p: Plan)
+pub fn apply_now(a: &mut [u8], lists: &mut [u64], live: &mut [u64], q: usize, p: Plan)
     requires { ⌜ AbleHere (now a) p × Long (now lists) × (q < 64 * length (now live)) ⌝ }
     ensures { λ r. ⌜ WrittenLive (now (a .entry)) (now (lists .entry)) (now (live .entry)) (backWrites (now (a .entry)) q p)
         (now (a .exit)) (now (lists .exit)) (now (live .exit)) ⌝ }
@@ -173,11 +174,11 @@ pub fn apply_here(a: &mut [u8], lists: &mut [u64], live: &mut [u64], q: usize, p
         put_joined(a, lists, live, q, p);
         return;
     }
-    apply_back(a, lists, live, q, p);
+    apply_later(a, lists, live, q, p);
 }
 
 // The same, whatever was written since, such as a payload that was carried elsewhere: nothing is known of the words.
-pub fn apply_back(a: &mut [u8], lists: &mut [u64], live: &mut [u64], q: usize, p: Plan)
+pub fn apply_later(a: &mut [u8], lists: &mut [u64], live: &mut [u64], q: usize, p: Plan)
     requires { ⌜ Able (now a) p × Long (now lists) × (q < 64 * length (now live)) ⌝ }
     ensures { λ r. ⌜ WrittenLive (now (a .entry)) (now (lists .entry)) (now (live .entry)) (backWrites (now (a .entry)) q p)
         (now (a .exit)) (now (lists .exit)) (now (live .exit)) ⌝ }

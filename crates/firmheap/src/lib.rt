@@ -144,7 +144,7 @@ pub fn deallocate(
             if p.refusal != 0 {
                 return Done::Refused(p.refusal);
             }
-            deallocate::apply_here(arena, lists, live, q, p);
+            deallocate::apply_now(arena, lists, live, q, p);
             Done::Yes
         }
         request::Payload::Unsuited => Done::Refused(OUT_OF_RANGE),

@@ -44,7 +44,7 @@ module _ (a : List ℕ) (f x y g : ℕ) (i : y < grains 8 a) (e : g ≡ ifEq x n
       (λ (n : x ≡ noLink → ⊥). back-outside a f x y g n (e ∙ eq-no x noLink y (turned x) n) h)
       (same? x noLink)
 
-  -- its word v is the one that is due, d: that of y, o, where x is none, and else y's own place
+  -- the word v of g is the one that is due, d: the word o of y itself where x is none, and else the one that leads to y
   module _ (s : length a < 18446744073709551616) (h : g < grains 8 a) (o v d : ℕ) (own : o ≡ wordAt 8 a (4 * y + f)) (there : v ≡ wordAt 8 a (4 * g + f)) (due : d ≡ ifEq x noLink o (32 * y)) where
     pub back-due : v ≡ d → Back a f x y
     back-due q = ⊎-elim

@@ -1,5 +1,5 @@
 -- What was seen can be written: the links of an entry that agrees, and the head of a list that does, are none or lead to a
--- grain. So they are what unlinking and pushing ask for.
+-- grain. So they are what unlinking and pushing ask for; where the block is named, its words must be these links, too.
 use Prim.Native.Nat.{ℕ, _<_}
 use native.Mathlib.Omega.{arith}
 use mathlib.Core.Path.{_≡_, ap, sym, _∙_}

@@ -1,5 +1,6 @@
--- The free lists in the lent slices: the slices, and links as words (Lent), what the code answers (Answers), what the
--- checks of an entry and of a head answer (Seen), and what the writes of unlinking and pushing store (Written).
+-- The free lists in the lent slices: the slices, and links as words (Lent), a link that may be none (Led), what the code answers
+-- (Answers), what the checks of an entry and of a head answer (Seen, by Back, Place and Headed), and what the writes of
+-- unlinking and pushing store (Written, Moves).
 pub mod Lent
 pub mod Led
 pub mod Answers

@@ -1,5 +1,5 @@
--- Where a block stands in its list: at the head, with nothing before it, or behind another that leads to it. Each law is
--- one return of the code, against the check `seePrev`.
+-- Where a block stands in its list: at the head, with nothing before it, or behind another that leads to it. The laws at the
+-- end are the returns of the code, one each, against the check `seePrev`; those before them are their cases.
 use Prim.Native.Nat.{ℕ, suc, _*_, _≤_, _<_}
 use native.Mathlib.Omega.{arith}
 use mathlib.Core.Path.{_≡_, refl, ap, sym, _∙_, subst}
@@ -25,7 +25,7 @@ use Rattle.free_list.specs.Back.{Back, reading-next, back-told}
 abbrev pub Placed : List ℕ → ℕ → ℕ → ℕ → Bool → Type 0
 Placed a h y p r = (l v t : List ℕ) → told r ≡ run (held a l v t) (seePrev (grains 8 a) (link a h) y (link a p))
 
--- two tests with one outcome, and with two
+-- two tests: they agree, or they differ
 agree : (s t : Bool) → Bool·beq s t ≡ true → s ≡ t
 agree true true h = refl
 agree true false h = absurd (true≢false (sym h))
@@ -122,7 +122,7 @@ module _ (a : List ℕ) (h y p : ℕ) (s : length a < 18446744073709551616) (i :
         (same? h b))
         (same? p noLink)
 
-    -- it is one of both: what is before it, if anything, has to lead to it
+    -- it is the head, or has something before it, and not both: what is before it, if anything, has to lead to it
     pub placed-once : (g : ℕ) → g ≡ turned h → g < grains 8 a → Bool·beq (eqb h b) (eqb p noLink) ≡ true → (r : Bool) → Says (Back a Next p y) r → Placed a h y p r
     placed-once g e q w r k = ⊎-elim
         (λ (z : p ≡ noLink). subst (Placed a h y p) (agree (eqb h b) (eqb p noLink) w ∙ eq-eqb p noLink z ∙ sure z r k) (placed-first z b d))

@@ -115,7 +115,7 @@ pub fn leads_back(a: &[u8], f: usize, x: u64, y: usize) -> bool
     if header::count(a) <= g {
         return false;
     }
-    let due = word_or(x, own, header::bytes_of(y));
+    let due = if_none(x, own, header::bytes_of(y));
     if header::field(a, g, f) == due {
         return true;
     }
@@ -138,7 +138,7 @@ fn grain_or(x: u64, y: usize) -> usize
 }
 
 // v where x is none, else w.
-fn word_or(x: u64, v: u64, w: u64) -> u64
+fn if_none(x: u64, v: u64, w: u64) -> u64
     ensures { λ r. ⌜ r ≡ ifEq x noLink v w ⌝ }
 {
     if x == NONE {
@@ -168,10 +168,11 @@ pub fn unlink_at(a: &mut [u8], lists: &mut [u64], k: usize, x: u64, p: u64, y: u
         (now (a .exit)) (now (lists .exit)) ⌝ }
 {
     lead(a, NEXT, p, x, y);
-    let head = word_or(p, x, head_of(lists, k));
+    let head = if_none(p, x, head_of(lists, k));
     table::store(lists, MAP_WORDS + k, head);
     lead(a, PREV, x, p, y);
-    bits::unmark_where(lists, k, word_or(p, x, p), NONE);
+    // None where both are: the list has no block any more.
+    bits::unmark_where(lists, k, if_none(p, x, p), NONE);
 }
 
 // Link f of what w leads to is v. Where w is none nothing changes: that link of y is v already.

@@ -34,7 +34,7 @@ seeListed n t y = do
   e ← seeEntry n (listOf t) y
   done (somebody t e)
 
--- the answer on t grains at y is that of the script, and a block that is there has so many
+-- the answer on t grains at y is that of the script, and a block that was seen has t grains
 abbrev pub SeenListed : List ℕ → List ℕ → ℕ → ℕ → BesideAnswer → Type 0
 SeenListed a l t y r = SeenBeside a l (seeListed (grains 8 a) t y) y r × ((r .grains ≡ 0 → ⊥) → r .grains ≡ t)
 

@@ -36,14 +36,14 @@ known-keep a b f e k n = record { list = k n .list; next = leads-keep a b (f .ne
 pub can-leave : (a l : List ℕ) (e : Neighbour) → Known a e → (e .grains ≡ 0 → ⊥) → Long l → Room (e .list) l × Leads a (e .next) × Leads a (e .prev)
 can-leave a l e k n o = (record { known = k n .list; room = o }, k n .next, k n .prev)
 
--- the words of y, where it is, are its links
+-- if it is there it is at y, and its links are the words of y
 abbrev pub Stands : List ℕ → ℕ → Neighbour → Type 0
 Stands a y e = (e .grains ≡ 0 → ⊥) → Holds a y (e .next) (e .prev)
 
 -- so it can be unlinked there
 pub can-leave-at : (a l : List ℕ) (e : Neighbour) (y : ℕ) → Known a e → (e .grains ≡ 0 → ⊥) → Long l → y < grains 8 a → Stands a y e
     → Room (e .list) l × Leads a (e .next) × Leads a (e .prev) × (y < grains 8 a) × Holds a y (e .next) (e .prev)
-can-leave-at a l e y k n o i h = (record { known = k n .list; room = o }, k n .next, k n .prev, i, h n)
+can-leave-at a l e y k n o i h = let c = can-leave a l e k n o in (c .0, c .1, c .2, i, h n)
 
 -- ---- one after the other
 

@@ -61,8 +61,8 @@ shownBeside a r = answer (r .ok) (someone (r .grains) (record { next = link a (r
 abbrev pub Listed : ℕ → ℕ → Type 0
 Listed g k = (g ≡ 0 → ⊥) → k ≡ listOf g
 
--- the answer is that of the script S, whatever the other slices hold; the block's list is that of its size, and its links are
--- the words of y, where it is
+-- the answer is that of the script S, whatever the other slices hold; a block that was seen is at y, its list is that of its
+-- size, and its links are the words of y
 pub record SeenBeside (a l : List ℕ) (S : Script Beside) (y : ℕ) (r : BesideAnswer) : Type 0 where
   pub answer : (v t : List ℕ) → shownBeside a r ≡ run (held a l v t) S
   pub list : Listed (r .grains) (r .list)

@@ -119,7 +119,7 @@ known-second a e f z i j n = record {
   prev = relinked-leads a (e .grains) (e .next) (32 * z) (e .prev) (f .prev) (λ m. i m .prev) (j n .prev);
 }
 
--- which changes nothing of it, where nobody was first
+-- where nobody left first, its links are as they were
 pub second-stands : (a : List ℕ) (e : Neighbour) (f : BesideAnswer) (y z : ℕ) → e .grains ≡ 0 → Stands a y (firstOf f) → Stands a y (secondOf e z f)
 second-stands a e f y z n h m = (
   h m .0 ∙ relinked-nobody (e .grains) (e .prev) (32 * z) (e .next) (f .next) n,

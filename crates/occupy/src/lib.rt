@@ -1,4 +1,4 @@
-// A planned take, carried out: the writes of its plan, in their order, and nothing else.
+// A planned take, carried out: the writes of its plan, in their order. Nothing else changes.
 ghost use Rattle.free_list.specs.Written.{WrittenLive};
 ghost use Rattle.occupy.specs.Taken.{Ready, takenWrites};
 use header::NONE;

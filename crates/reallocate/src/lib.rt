@@ -193,6 +193,6 @@ fn leave_old(
         return back.refusal;
     }
     copy::move_halves(a, q, to, u);
-    deallocate::apply_back(a, lists, live, q, back);
+    deallocate::apply_later(a, lists, live, q, back);
     0
 }

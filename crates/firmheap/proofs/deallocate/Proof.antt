@@ -79,8 +79,8 @@ returns-3 c =
     deallocate-refused _ _ _ (s .args .payload) (s .args .align) (s .good .0 .0) (long (y .before)) (y .payload-of .result) (y .payload-of .ensures) _ (q .q .given .1) (inside e)
     (p .plan-back .result) (p .plan-back .ensures) (c .if3 .taken)
 
-apply-here-requires : tie.Need-apply-here-requires
-apply-here-requires c κs =
+apply-now-requires : tie.Need-apply-now-requires
+apply-now-requires c κs =
     let i = c .before .before .before in
     let p = i .before .before in
     let e = p .before .before .before .before in
@@ -114,7 +114,7 @@ returns-4 c =
     let y = q .before .before in
     let s = y .before .before .before .before .before .before in
     deallocate-done _ _ _ (s .args .payload) (s .args .align) (s .good .0 .0) (long (y .before)) (y .payload-of .result) (y .payload-of .ensures) _ (q .q .given .1) (inside e)
-    (p .plan-back .result) (p .plan-back .ensures) _ _ _ (i .if3 .left) (w .apply-here .ensures)
+    (p .plan-back .result) (p .plan-back .ensures) _ _ _ (i .if3 .left) (w .apply-now .ensures)
 
 returns-5 : tie.Need-returns-5
 returns-5 c =
@@ -144,7 +144,7 @@ deallocate-spec =
     same-length-3
     same-length-4
     returns-3
-    apply-here-requires
+    apply-now-requires
     enum-told
     enum-told-2
     same-length-5

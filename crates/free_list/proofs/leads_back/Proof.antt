@@ -1,7 +1,6 @@
 -- `free_list::leads_back`: the word that is due is there, or isn't.
 use native.Mathlib.Omega.{arith}
-use mathlib.Core.Path.{_≡_, ap, _∙_}
-use Prim.Native.Nat.{_*_}
+use mathlib.Core.Path.{ap, _∙_}
 use Rattle.choice.specs.Choice.{ifEq}
 use Rattle.header.specs.Turned.{grains-few}
 use Rattle.free_list.specs.Lent.{noLink}
@@ -30,8 +29,8 @@ bytes-of-requires c κs =
     let s = c .before .before .before .before .before in
     omega (arith, s .pre .1, grains-few (s .args .a .now) (s .good .0 .0))
 
-word-or-requires : tie.Need-word-or-requires
-word-or-requires c κs = search needs
+if-none-requires : tie.Need-if-none-requires
+if-none-requires c κs = search needs
 
 field-requires-2 : tie.Need-field-requires-2
 field-requires-2 c κs = search needs
@@ -45,7 +44,7 @@ returns-2 c =
     let o = g .before in
     let s = o .before .before in
     back-due (s .args .a .now) (s .args .f) (s .args .x) (s .args .y) (g .grain-or .result) (s .pre .1) (g .grain-or .ensures) (s .good .0 .0) (omega arith)
-    (o .field .result) (v .field2 .result) (d .word-or .result) (o .field .ensures) (v .field2 .ensures) (d .word-or .ensures ∙ ap (ifEq (s .args .x) noLink (o .field .result)) (b .bytes-of .ensures)) (c .if2 .taken)
+    (o .field .result) (v .field2 .result) (d .if-none .result) (o .field .ensures) (v .field2 .ensures) (d .if-none .ensures ∙ ap (ifEq (s .args .x) noLink (o .field .result)) (b .bytes-of .ensures)) (c .if2 .taken)
 
 returns-3 : tie.Need-returns-3
 returns-3 c =
@@ -56,7 +55,7 @@ returns-3 c =
     let o = g .before in
     let s = o .before .before in
     back-undue (s .args .a .now) (s .args .f) (s .args .x) (s .args .y) (g .grain-or .result) (s .pre .1) (g .grain-or .ensures) (s .good .0 .0) (omega arith)
-    (o .field .result) (v .field2 .result) (d .word-or .result) (o .field .ensures) (v .field2 .ensures) (d .word-or .ensures ∙ ap (ifEq (s .args .x) noLink (o .field .result)) (b .bytes-of .ensures)) (c .if2 .left)
+    (o .field .result) (v .field2 .result) (d .if-none .result) (o .field .ensures) (v .field2 .ensures) (d .if-none .ensures ∙ ap (ifEq (s .args .x) noLink (o .field .result)) (b .bytes-of .ensures)) (c .if2 .left)
 
 pub leads-back-spec : {M : Type 1} → statement M
 leads-back-spec =
@@ -67,7 +66,7 @@ leads-back-spec =
     count-requires
     returns
     bytes-of-requires
-    word-or-requires
+    if-none-requires
     field-requires-2
     returns-2
     returns-3)

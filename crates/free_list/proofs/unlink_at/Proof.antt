@@ -16,8 +16,8 @@ lead-requires c κs = search needs
 head-of-requires : tie.Need-head-of-requires
 head-of-requires c κs = search needs
 
-word-or-requires : tie.Need-word-or-requires
-word-or-requires c κs = search needs
+if-none-requires : tie.Need-if-none-requires
+if-none-requires c κs = search needs
 
 add-store : tie.Need-add-store
 add-store c = search needs
@@ -33,8 +33,8 @@ lead-requires-2 c κs =
     let e = led-length a _ (s .args .p) _ (s .args .x) (u .lead .ensures) in
     (omega arith, rw (grains-keep 8 a _ e) (s .pre .3), leads-keep a _ (s .args .x) e (s .pre .1), led-other a _ (s .args .p) (s .args .y) (s .args .x) (u .lead .ensures) ∙ s .pre .4 .1)
 
-word-or-requires-2 : tie.Need-word-or-requires-2
-word-or-requires-2 c κs = search needs
+if-none-requires-2 : tie.Need-if-none-requires-2
+if-none-requires-2 c κs = search needs
 
 unmark-where-requires : tie.Need-unmark-where-requires
 unmark-where-requires c κs = search needs
@@ -60,8 +60,8 @@ returns c =
     let p = s .args .p in
     let e = led-length a _ p _ x (u .lead .ensures) in
     unlinked (s .args .k) x p
-    (next-led a (s .args .lists .now) (s .args .k) x p (s .good .0 .0) (s .pre .1) (s .pre .2) _ _ (w .word-or .result) (u .lead .ensures) (w .word-or .ensures ∙ ap (ifEq p noLink x) (h .head-of .ensures)) (t .store .ensures))
-    (prev-led _ _ (s .args .k) x p (rw e (s .good .0 .0)) (leads-keep a _ x e (s .pre .1)) (leads-keep a _ p e (s .pre .2)) _ _ (z .word-or2 .result) (v .lead2 .ensures) (z .word-or2 .ensures) (m .unmark-where .ensures))
+    (next-led a (s .args .lists .now) (s .args .k) x p (s .good .0 .0) (s .pre .1) (s .pre .2) _ _ (w .if-none .result) (u .lead .ensures) (w .if-none .ensures ∙ ap (ifEq p noLink x) (h .head-of .ensures)) (t .store .ensures))
+    (prev-led _ _ (s .args .k) x p (rw e (s .good .0 .0)) (leads-keep a _ x e (s .pre .1)) (leads-keep a _ p e (s .pre .2)) _ _ (z .if-none2 .result) (v .lead2 .ensures) (z .if-none2 .ensures) (m .unmark-where .ensures))
 
 pub unlink-at-spec : {M : Type 1} → statement M
 unlink-at-spec =
@@ -69,11 +69,11 @@ unlink-at-spec =
     (tie.spec
     lead-requires
     head-of-requires
-    word-or-requires
+    if-none-requires
     add-store
     store-requires
     lead-requires-2
-    word-or-requires-2
+    if-none-requires-2
     unmark-where-requires
     same-length
     same-length-2

@@ -34,8 +34,8 @@ move-halves-requires c κs =
     let s = c .before .before .before .before .before .before .before .before .before .before in
     (halves-inside (s .args .a .now) (s .args .q) (s .args .u) (s .pre .4), halves-inside (s .args .a .now) (s .args .to) (s .args .u) (s .pre .5))
 
-apply-back-requires : tie.Need-apply-back-requires
-apply-back-requires c κs =
+apply-later-requires : tie.Need-apply-later-requires
+apply-later-requires c κs =
     let m = c .before .before .before .before .before in
     let i = m .before .before in
     let p = i .before .before in
@@ -58,7 +58,7 @@ returns-2 c =
     let i = m .before .before in
     let p = i .before .before in
     let s = p .before .before .before .before .before .before .before .args in
-    left-done (s .a .now) (s .lists .now) (s .live .now) (s .q) (s .to) (s .u) (s .s) (p .plan-back .result) (p .plan-back .ensures) _ _ _ _ (i .if1 .left) (m .move-halves .kept .0) (m .move-halves .ensures) (w .apply-back .ensures)
+    left-done (s .a .now) (s .lists .now) (s .live .now) (s .q) (s .to) (s .u) (s .s) (p .plan-back .result) (p .plan-back .ensures) _ _ _ _ (i .if1 .left) (m .move-halves .kept .0) (m .move-halves .ensures) (w .apply-later .ensures)
 
 pub leave-old-spec : {M : Type 1} → statement M
 leave-old-spec =
@@ -71,7 +71,7 @@ leave-old-spec =
     same-length-3
     returns
     move-halves-requires
-    apply-back-requires
+    apply-later-requires
     same-length-4
     same-length-5
     same-length-6

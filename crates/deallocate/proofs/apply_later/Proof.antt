@@ -1,9 +1,9 @@
--- `deallocate::apply_back`: the neighbours leave, and the joined block is put; none of it changes a length.
+-- `deallocate::apply_later`: the neighbours leave, and the joined block is put; none of it changes a length.
 use Rattle.neighbours.specs.Leaving.{bothLeaving}
 use Rattle.deallocate.specs.Written.{able-after, joined-after}
 use borrow.Author.Needs.{needs}
-use Rattle.deallocate.proofs.apply_back.Statement.{statement}
-use Rattle.deallocate.proofs.apply_back.Tie as tie
+use Rattle.deallocate.proofs.apply_later.Statement.{statement}
+use Rattle.deallocate.proofs.apply_later.Tie as tie
 
 leave-both-requires : tie.Need-leave-both-requires
 leave-both-requires c κs = let s = c .before .before .before .before .before in (s .pre .0 .behind, s .pre .0 .before, s .pre .1)
@@ -31,8 +31,8 @@ returns c =
     let s = u .before .before .before .before .before .before .args in
     joined-after (s .q) (s .p) (u .leave-both .ensures) (j .put-joined .ensures)
 
-pub apply-back-spec : {M : Type 1} → statement M
-apply-back-spec =
+pub apply-later-spec : {M : Type 1} → statement M
+apply-later-spec =
     tie.close
     (tie.spec
     leave-both-requires

@@ -1,11 +1,11 @@
--- `deallocate::apply_here`: a neighbour that is there leaves, and the joined block is put; none of it changes a length.
+-- `deallocate::apply_now`: a neighbour that is there leaves, and the joined block is put; none of it changes a length.
 use native.Mathlib.Omega.{arith}
 use Rattle.header.specs.Turned.{grains-few}
 use Rattle.neighbours.specs.Leaving.{can-leave-at, left-nobody, left-list, both-left}
 use Rattle.deallocate.specs.Written.{able-after, joined-after}
 use borrow.Author.Needs.{needs}
-use Rattle.deallocate.proofs.apply_here.Statement.{statement}
-use Rattle.deallocate.proofs.apply_here.Tie as tie
+use Rattle.deallocate.proofs.apply_now.Statement.{statement}
+use Rattle.deallocate.proofs.apply_now.Tie as tie
 
 put-joined-requires : tie.Need-put-joined-requires
 put-joined-requires c κs = search needs
@@ -101,8 +101,8 @@ returns-3 c =
     (both-left (s .p .behind) (s .p .before) (left-list (s .a .now) (s .lists .now) _ _ (s .p .behind) (e .if1 .left) (u .unlink-at2 .ensures)) (left-nobody _ _ (s .p .before) (f .if3 .taken)))
     (j .put-joined3 .ensures)
 
-apply-back-requires : tie.Need-apply-back-requires
-apply-back-requires c κs = let s = c .before .before .before .before .before .before .before .before .before .before in (s .pre .0 .0, s .pre .1, s .pre .2)
+apply-later-requires : tie.Need-apply-later-requires
+apply-later-requires c κs = let s = c .before .before .before .before .before .before .before .before .before .before in (s .pre .0 .0, s .pre .1, s .pre .2)
 
 same-length-10 : tie.Need-same-length-10
 same-length-10 c = search needs
@@ -114,10 +114,10 @@ same-length-12 : tie.Need-same-length-12
 same-length-12 c = search needs
 
 returns-4 : tie.Need-returns-4
-returns-4 c = c .before .before .before .before .before .before .apply-back .ensures
+returns-4 c = c .before .before .before .before .before .before .apply-later .ensures
 
-pub apply-here-spec : {M : Type 1} → statement M
-apply-here-spec =
+pub apply-now-spec : {M : Type 1} → statement M
+apply-now-spec =
     tie.close
     (tie.spec
     put-joined-requires
@@ -139,7 +139,7 @@ apply-here-spec =
     same-length-8
     same-length-9
     returns-3
-    apply-back-requires
+    apply-later-requires
     same-length-10
     same-length-11
     same-length-12
