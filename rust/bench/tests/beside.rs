@@ -12,7 +12,11 @@ use std::process::Command;
 /// The archive that is linked here.
 fn archive() -> OsString {
     std::env::var_os("FIRMHEAP_ARCHIVE").unwrap_or_else(|| {
-        format!("{}/../../target/archive/{ARCH}-unknown-linux-gnu/libfirmheap.a", env!("CARGO_MANIFEST_DIR")).into()
+        format!(
+            "{}/../../target/archive/{ARCH}-unknown-linux-gnu/libfirmheap.a",
+            env!("CARGO_MANIFEST_DIR")
+        )
+        .into()
     })
 }
 
