@@ -46,16 +46,18 @@ module _ (a : List ℕ) (f x y g : ℕ) (i : y < grains 8 a) (e : g ≡ ifEq x n
 
   -- the word v of g is the one that is due, d: the word o of y itself where x is none, and else the one that leads to y
   module _ (s : length a < 18446744073709551616) (h : g < grains 8 a) (o v d : ℕ) (own : o ≡ wordAt 8 a (4 * y + f)) (there : v ≡ wordAt 8 a (4 * g + f)) (due : d ≡ ifEq x noLink o (32 * y)) where
-    pub back-due : v ≡ d → Back a f x y
-    back-due q = ⊎-elim
-        (λ (z : x ≡ noLink). inl z)
-        (λ (n : x ≡ noLink → ⊥). back-says a f x y g n (e ∙ eq-no x noLink y (turned x) n) true h (leads-yes a g f v y 0 h i s there (q ∙ due ∙ eq-no x noLink o (32 * y) n)))
-        (same? x noLink)
-
-    pub back-undue : (v ≡ d → ⊥) → Back a f x y → ⊥
-    back-undue q = ⊎-elim
-        (λ (z : x ≡ noLink). absurd (q (there ∙ ap (λ (j : ℕ). wordAt 8 a (4 * j + f)) (e ∙ eq-yes x noLink y (turned x) z) ∙ sym own ∙ sym (due ∙ eq-yes x noLink o (32 * y) z))))
-        (λ (n : x ≡ noLink → ⊥). back-says a f x y g n (e ∙ eq-no x noLink y (turned x) n) false h (leads-no a g f v y 0 h i s there (λ w. q (w ∙ sym (due ∙ eq-no x noLink o (32 * y) n)))))
+    pub back-due : (v ≡ d → Back a f x y) × ((v ≡ d → ⊥) → Back a f x y → ⊥)
+    back-due = ⊎-elim
+        (λ (z : x ≡ noLink). (
+          λ q. inl z,
+          λ q. absurd (q (there ∙ ap (λ (j : ℕ). wordAt 8 a (4 * j + f)) (e ∙ eq-yes x noLink y (turned x) z) ∙ sym own ∙ sym (due ∙ eq-yes x noLink o (32 * y) z))),
+        ))
+        (λ (n : x ≡ noLink → ⊥).
+        let k = e ∙ eq-no x noLink y (turned x) n in
+        let c = due ∙ eq-no x noLink o (32 * y) n in (
+          λ q. back-says a f x y g n k true h (leads-yes a g f v y 0 h i s there (q ∙ c)),
+          λ q. back-says a f x y g n k false h (leads-no a g f v y 0 h i s there (λ w. q (w ∙ sym c))),
+        ))
         (same? x noLink)
 
 -- ---- the memory of the slices

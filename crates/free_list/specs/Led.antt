@@ -2,7 +2,7 @@
 -- whichever it is.
 use Prim.Native.Nat.{ℕ, _+_, _*_, _<_}
 use native.Mathlib.Omega.{arith}
-use mathlib.Core.Path.{_≡_, refl, ap, sym, _∙_}
+use mathlib.Core.Path.{_≡_, refl, ap, sym, _∙_, subst}
 use mathlib.Core.List.{List}
 use mathlib.Core.Logic.{⊎-elim}
 use lib.ListN.{length, getD}
@@ -16,10 +16,7 @@ use Rattle.free_list.specs.Lent.{noLink, Leads, leads-grain}
 module _ (a : List ℕ) (w y g : ℕ) (e : g ≡ ifEq w noLink y (turned w)) where
   -- it is a grain
   pub led-grain : y < grains 8 a → Leads a w → g < grains 8 a
-  led-grain h f = ⊎-elim
-      (λ (z : w ≡ noLink). omega (arith, e ∙ eq-yes w noLink y (turned w) z))
-      (λ (n : w ≡ noLink → ⊥). omega (arith, leads-grain f n, e ∙ eq-no w noLink y (turned w) n))
-      (same? w noLink)
+  led-grain h f = subst (λ (i : ℕ). i < grains 8 a) (sym e) (eq-case (λ (i : ℕ). i < grains 8 a) w noLink y (turned w) (λ _. h) (leads-grain f))
 
   -- its link f is v from now on: nothing changes where w is none, for that of y is v already
   pub led-put : (f v : ℕ) → ((j : ℕ) → getD a j 0 < 256) → wordAt 8 a (4 * y + f) ≡ v → putAt 8 a (4 * g + f) v ≡ ifEq w noLink a (putAt 8 a (4 * turned w + f) v)
@@ -36,9 +33,6 @@ led-length a b w i v e = ap length e ∙ eq-case (λ (c : List ℕ). length c �
 
 -- and so does the previous of y, where the next of what w leads to was written
 pub led-other : (a b : List ℕ) (w y v : ℕ) → b ≡ ifEq w noLink a (putAt 8 a (4 * turned w + Next) v) → wordAt 8 b (4 * y + Prev) ≡ wordAt 8 a (4 * y + Prev)
-led-other a b w y v e = ap (λ (c : List ℕ). wordAt 8 c (4 * y + Prev)) e ∙ ⊎-elim
-    (λ (z : w ≡ noLink). ap (λ (c : List ℕ). wordAt 8 c (4 * y + Prev)) (eq-yes w noLink a _ z))
-    (λ (n : w ≡ noLink → ⊥).
-    ap (λ (c : List ℕ). wordAt 8 c (4 * y + Prev)) (eq-no w noLink a _ n)
-    ∙ word-at-other 8 a (4 * turned w + Next) v (4 * y + Prev) (λ q. omega arith))
-    (same? w noLink)
+led-other a b w y v e =
+    ap (λ (c : List ℕ). wordAt 8 c (4 * y + Prev)) e
+    ∙ eq-case (λ (c : List ℕ). wordAt 8 c (4 * y + Prev) ≡ wordAt 8 a (4 * y + Prev)) w noLink a _ (λ _. refl) (λ _. word-at-other 8 a (4 * turned w + Next) v (4 * y + Prev) (λ q. omega arith))

@@ -72,19 +72,23 @@ module _ (a l : List ℕ) (k x p : ℕ) (s : length a < 18446744073709551616) (f
       → Written a l (joinPrev k (link a x) (link a p)) b m
   prev-led b m w q c d = ⊎-elim
       (λ (e : x ≡ noLink). subst (λ (z : List ℕ). Written a l (joinPrev k (link a x) (link a p)) z m) (sym (q ∙ eq-yes x noLink _ _ e)) (last e))
-      (λ (n : x ≡ noLink → ⊥).
-      subst (λ (z : List ℕ). Written a l (joinPrev k (link a x) (link a p)) b z) (sym (d ∙ eq-no w noLink _ _ (λ r. n (⊎-elim
-      (λ (y : p ≡ noLink). sym (c ∙ eq-yes p noLink x p y) ∙ r)
-      (λ (y : p ≡ noLink → ⊥). absurd (y (sym (c ∙ eq-no p noLink x p y) ∙ r)))
-      (same? p noLink)))))
-      (prev-grain b (turned x) n refl (q ∙ eq-no x noLink _ _ n)))
+      (λ (n : x ≡ noLink → ⊥). marked b (λ r. n (both r .0)) (prev-grain b (turned x) n refl (q ∙ eq-no x noLink _ _ n)))
       (same? x noLink)
     where
+      both : w ≡ noLink → (x ≡ noLink) × (p ≡ noLink)
+      both r = ⊎-elim
+          (λ (y : p ≡ noLink). (sym (c ∙ eq-yes p noLink x p y) ∙ r, y))
+          (λ (n : p ≡ noLink → ⊥). absurd (n (sym (c ∙ eq-no p noLink x p n) ∙ r)))
+          (same? p noLink)
+
+      -- the table stays where they are not
+      marked : (z : List ℕ) → (w ≡ noLink → ⊥) → Written a l (joinPrev k (link a x) (link a p)) z l → Written a l (joinPrev k (link a x) (link a p)) z m
+      marked z n h = subst (λ (o : List ℕ). Written a l (joinPrev k (link a x) (link a p)) z o) (sym (d ∙ eq-no w noLink _ _ n)) h
+
       last : x ≡ noLink → Written a l (joinPrev k (link a x) (link a p)) a m
       last e = ⊎-elim
           (λ (y : p ≡ noLink). prev-only m e y (d ∙ eq-yes w noLink _ _ (c ∙ eq-yes p noLink x p y ∙ e)))
-          (λ (n : p ≡ noLink → ⊥).
-          subst (λ (z : List ℕ). Written a l (joinPrev k (link a x) (link a p)) a z) (sym (d ∙ eq-no w noLink _ _ (λ r. n (sym (c ∙ eq-no p noLink x p n) ∙ r)))) (prev-last e n))
+          (λ (n : p ≡ noLink → ⊥). marked a (λ r. n (both r .1)) (prev-last e n))
           (same? p noLink)
 
 -- both
