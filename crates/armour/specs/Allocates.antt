@@ -16,7 +16,7 @@ use Rattle.invariants.specs.Moves.{occupy}
 use Rattle.invariants.specs.Gaps.{gap-free, gap-used}
 use Rattle.invariants.specs.Placing.{Align, align-pos, place-some, keeps-some, place-inside, keeps-wanted, wanted-some}
 use Rattle.invariants.specs.Promises.{leave-keeps, leave-only}
-use Rattle.script.specs.Memory.{Memory, Next, Prev, Mark}
+use Rattle.script.specs.Memory.{Memory, Next, Prev, Mark, apply}
 use Rattle.script.specs.Script.{Gives, inv-bind}
 use Rattle.sound.specs.Swaps.{Swaps}
 use Rattle.tags.specs.Writes.{allocateTags}
@@ -78,21 +78,22 @@ module _ (n c p a : ℕ) (m : Memory) (f : Lists) (l r : List Block) (s : ℕ) (
       → Ready (linkBounds c (l ⟨⟩ free s ∷ r) ys) m (takenSteps p a (firstAt (total l) s))
   take-ready ys small nx pv h new = ((small, inl nx, inl pv), rest-ready c m (l ⟨⟩ free s ∷ r) ys (total l) s kept kept-fits small h new)
 
+  pub take-row : Row n c (apply m (allocateTags (total l) s kept set)) (handed .blocks)
+  take-row = row-changed n c m (l ⟨⟩ free s ∷ r) (handed .blocks) (allocateTags (total l) s kept set) (total l) (free s) (total l) (used kept set) o (allocate-field (total l) s kept set) take-swaps gap-free gap-used
+      (take-left .order) (take-left .short) (take-left .whole)
+      (allocate-tagged m (drop (listOf s) (total l) f) l r s kept set kept-some kept-fits (place-inside a (total l) p al) (o .tags))
+
   pub take-turns : Ready (linkBounds c (l ⟨⟩ free s ∷ r) (handed .blocks)) m (takenSteps p a (firstAt (total l) s) ++ []) → Turns n c m (l ⟨⟩ free s ∷ r) (allocateDeed p a (firstAt (total l) s)) (handed .blocks)
-  take-turns ready =
-      let w = allocateTags (total l) s kept set in
-      record {
-        row = row-changed n c m (l ⟨⟩ free s ∷ r) (handed .blocks) w (total l) (free s) (total l) (used kept set) o (allocate-field (total l) s kept set) take-swaps gap-free gap-used
-            (take-left .order) (take-left .short) (take-left .whole)
-            (allocate-tagged m (drop (listOf s) (total l) f) l r s kept set kept-some kept-fits (place-inside a (total l) p al) (o .tags));
-        records = tags-records w (allocate-field (total l) s kept set);
-        ready = ready;
-        guards = ((s, at-here l r (free s)), tt);
-        used-before = λ x t d b. ⊎-elim
-            (λ (q : (x ≡ total l) × (used kept set ≡ used t d)). inl (inl (q .0)))
-            (λ (q : BlockAt x (used t d) 0 (l ⟨⟩ free s ∷ r)). inr (t, d, q))
-            (take-swaps .back x (used t d) tt b);
-      }
+  take-turns ready = record {
+    row = take-row;
+    records = tags-records (allocateTags (total l) s kept set) (allocate-field (total l) s kept set);
+    ready = ready;
+    guards = ((s, at-here l r (free s)), tt);
+    used-before = λ x t d b. ⊎-elim
+        (λ (q : (x ≡ total l) × (used kept set ≡ used t d)). inl (inl (q .0)))
+        (λ (q : BlockAt x (used t d) 0 (l ⟨⟩ free s ∷ r)). inr (t, d, q))
+        (take-swaps .back x (used t d) tt b);
+  }
 
 -- ---- what was found
 

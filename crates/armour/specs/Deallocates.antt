@@ -14,7 +14,7 @@ use Rattle.invariants.specs.Moves.{free-used}
 use Rattle.invariants.specs.Neighbours.{total-past, join-ok}
 use Rattle.invariants.specs.Kept.{kept-join, kept-join-back}
 use Rattle.invariants.specs.Gaps.{gap-free, gap-used}
-use Rattle.script.specs.Memory.{Memory}
+use Rattle.script.specs.Memory.{Memory, apply}
 use Rattle.script.specs.Script.{Gives, inv-bind}
 use Rattle.sound.specs.Swaps.{Swaps}
 use Rattle.tags.specs.Writes.{deallocateTags}
@@ -54,25 +54,31 @@ module _ (n c : ℕ) (m : Memory) (f : Lists) (l r : List Block) (s d : ℕ) (o 
     back = λ y b v h. inr (kept-join y b v l r s d (room l + (s + room r)) refl h);
   }
 
+  pub return-row : Row n c (apply m (deallocateTags (total l) s d (room l) (room r))) (join f l s r .blocks)
+  unfolding join
+  return-row =
+      let k = join-ok c _ l r s d (listing-sane c (l ⟨⟩ used s d ∷ r) (o .order) (o .short)) in
+      row-changed n c m (l ⟨⟩ used s d ∷ r) (join f l s r .blocks) (deallocateTags (total l) s d (room l) (room r)) (total l) (used s d) (total (past l)) (free (room l + (s + room r))) o
+      (deallocate-field (total l) s d (room l) (room r)) return-swaps gap-used gap-free (k .order) (k .short)
+      (omega (arith, total-zip (past l) (free (room l + (s + room r)) ∷ past r), total-zip l (used s d ∷ r), total-past l, total-past r, o .whole))
+      (deallocate-tagged m l r s d (o .order) (o .tags))
+
+  -- a block that is used afterwards was so before
+  pub return-used : (x t e : ℕ) → BlockAt x (used t e) 0 (join f l s r .blocks) → BlockAt x (used t e) 0 (l ⟨⟩ used s d ∷ r)
+  return-used x t e b = ⊎-elim
+      (λ (q : (x ≡ total (past l)) × (free (room l + (s + room r)) ≡ used t e)). absurd (free-used (sym (q .1))))
+      (λ (q : BlockAt x (used t e) 0 (l ⟨⟩ used s d ∷ r)). q)
+      (return-swaps .back x (used t e) tt b)
+
   pub return-turns : Ready (linkBounds c (l ⟨⟩ used s d ∷ r) (join f l s r .blocks)) m (besideSteps (total l) s (room l) (room r) ++ joinSteps (total l) s (room l) (room r))
       → Turns n c m (l ⟨⟩ used s d ∷ r) (deallocateDeed (total l) s d (room l) (room r)) (join f l s r .blocks)
-  unfolding join
-  return-turns ready =
-      let w = deallocateTags (total l) s d (room l) (room r) in
-      let k = join-ok c _ l r s d (listing-sane c (l ⟨⟩ used s d ∷ r) (o .order) (o .short)) in
-      record {
-        row = row-changed n c m (l ⟨⟩ used s d ∷ r) (join f l s r .blocks) w (total l) (used s d) (total (past l)) (free (room l + (s + room r))) o (deallocate-field (total l) s d (room l) (room r))
-            return-swaps gap-used gap-free (k .order) (k .short)
-            (omega (arith, total-zip (past l) (free (room l + (s + room r)) ∷ past r), total-zip l (used s d ∷ r), total-past l, total-past r, o .whole))
-            (deallocate-tagged m l r s d (o .order) (o .tags));
-        records = tags-records w (deallocate-field (total l) s d (room l) (room r));
-        ready = ready;
-        guards = tt;
-        used-before = λ x t e b. ⊎-elim
-            (λ (q : (x ≡ total (past l)) × (free (room l + (s + room r)) ≡ used t e)). absurd (free-used (sym (q .1))))
-            (λ (q : BlockAt x (used t e) 0 (l ⟨⟩ used s d ∷ r)). inr (t, e, q))
-            (return-swaps .back x (used t e) tt b);
-      }
+  return-turns ready = record {
+    row = return-row;
+    records = tags-records (deallocateTags (total l) s d (room l) (room r)) (deallocate-field (total l) s d (room l) (room r));
+    ready = ready;
+    guards = tt;
+    used-before = λ x t e b. inr (t, e, return-used x t e b);
+  }
 
   -- the neighbours leave their lists, whatever blocks there are afterwards
   pub beside-ready : (ys : List Block) → Beside c m (l ⟨⟩ used s d ∷ r) (total l + s) (room r) → Beside c m (l ⟨⟩ used s d ∷ r) (total l - room l) (room l)

@@ -54,6 +54,14 @@ module _ (n c : ℕ) (m : Memory) (xs : List Block) (o : Row n c m xs) where
 
 -- ---- beside a used block
 
+-- at the arena's start there is nothing before it
+pub no-room : (l : List Block) → OrderedL l → total l ≡ 0 → room l ≡ 0
+no-room [] w e = refl
+no-room (free t ∷ l) w e = absurd (omega (arith, w .1))
+no-room (used t v ∷ l) w e = refl
+no-room (last ∷ l) w e = refl
+no-room (gap ∷ l) w e = refl
+
 -- t free grains at y, whose links lead to free blocks; 0 stands for none
 pub record Beside (c : ℕ) (m : Memory) (xs : List Block) (y t : ℕ) : Type 0 where
   pub list : (t ≡ 0 → ⊥) → listOf t < 16 * c
@@ -94,13 +102,6 @@ module _ (n c : ℕ) (m : Memory) (l r : List Block) (s d : ℕ) (o : Row n c m 
   pub before-known : {a : ℕ} → Gives m (seeBefore n c (total l)) a → (a ≡ room l) × Beside c m (l ⟨⟩ used s d ∷ r) (total l - a) a
   before-known {a} g = go (before-checked m n c (total l) (omega (arith, whole-block .0, total-zip l (used s d ∷ r), o .whole)) g)
     where
-      empty : (l : List Block) → OrderedL l → total l ≡ 0 → room l ≡ 0
-      empty [] w e = refl
-      empty (free t ∷ l) w e = absurd (omega (arith, w .1))
-      empty (used t v ∷ l) w e = refl
-      empty (last ∷ l) w e = refl
-      empty (gap ∷ l) w e = refl
-
       none : (room l ≡ 0) → (a ≡ 0) → (a ≡ room l) × Beside c m (l ⟨⟩ used s d ∷ r) (total l - a) a
       none e f = (f ∙ sym e, beside-none c m _ (total l - a) a f)
 
@@ -119,6 +120,6 @@ module _ (n c : ℕ) (m : Memory) (l r : List Block) (s d : ℕ) (o : Row n c m 
       go : ((1 ≤ total l) × (m Tag (total l - 1) % START ≡ FREE) × (m Tag (total l - 1) / flags ≡ a) × (a ≤ total l) × ListedFree m n c (total l - a) a) ⊎ (((total l ≡ 0) ⊎ (m Tag (total l - 1) % START ≡ FREE → ⊥)) × (a ≡ 0))
           → (a ≡ room l) × Beside c m (l ⟨⟩ used s d ∷ r) (total l - a) a
       go (inl k) = some (k .1) (k .2) (k .4) (before-tag (m Tag) l (parts .0) (rows .0) (k .0) .room)
-      go (inr k) = none (⊎-elim (λ (e : total l ≡ 0). empty l (parts .0) e)
-          (λ (e : m Tag (total l - 1) % START ≡ FREE → ⊥). ⊎-elim (λ (p : 1 ≤ total l). full e p) (λ (p : total l < 1). empty l (parts .0) (omega arith)) (le? 1 (total l)))
+      go (inr k) = none (⊎-elim (λ (e : total l ≡ 0). no-room l (parts .0) e)
+          (λ (e : m Tag (total l - 1) % START ≡ FREE → ⊥). ⊎-elim (λ (p : 1 ≤ total l). full e p) (λ (p : total l < 1). no-room l (parts .0) (omega arith)) (le? 1 (total l)))
           (k .0)) (k .1)

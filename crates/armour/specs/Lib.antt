@@ -7,3 +7,10 @@ pub mod Known
 pub mod Changed
 pub mod Allocates
 pub mod Deallocates
+pub mod InPlace
+pub mod Apart
+pub mod Elsewhere
+pub mod Resizes
+pub mod Carried
+pub mod Moved
+pub mod Reallocates

@@ -1,0 +1,166 @@
+-- T11, reallocate elsewhere: another block is taken and the old one returned, in one deed. Neither changes what was seen of the
+-- other, since they are no neighbours.
+use Prim.Native.Nat.{ℕ, _+_, _-_, _*_, _/_, _%_, _≤_, _<_}
+use native.Mathlib.Omega.{arith}
+use mathlib.Core.Path.{_≡_, refl, ap, sym, _∙_, subst}
+use mathlib.Core.List.{List, [], _∷_, _++_}
+use mathlib.Core.Logic.{_⊎_, inl, inr, ⊎-elim}
+use Rattle.class.specs.Class.{listOf}
+use Rattle.definition.specs.Blocks.{Block, free, used, total, _⟨⟩_, room, past}
+use Rattle.definition.specs.Lists.{Lists, drop, found}
+use Rattle.definition.specs.Calls.{Heap, Answer, granted, wanted, place, keeps, join, takeAt, giveBack, backAfter, answering}
+use Rattle.invariants.specs.Order.{BlockAt, at-here, at-end, stands-at}
+use Rattle.invariants.specs.Moves.{free-used}
+use Rattle.invariants.specs.Neighbours.{total-past}
+use Rattle.invariants.specs.Placing.{Align, place-inside}
+use Rattle.script.specs.Memory.{Memory, Next, Prev, Write, apply, apply-append}
+use Rattle.tags.specs.Tag.{Tag, flags, START, FREE, freeTag}
+use Rattle.tags.specs.Each.{each-append}
+use Rattle.tags.specs.Decode.{first-free, free-here}
+use Rattle.tags.specs.Writes.{allocateTags, deallocateTags}
+use Rattle.tags.specs.Within.{allocate-field, deallocate-field, allocate-within, deallocate-within}
+use Rattle.plans.specs.Allocate.{Taken, takenSteps, takenTags}
+use Rattle.plans.specs.Deallocate.{besideSteps, joinSteps}
+use Rattle.plans.specs.Reallocate.{elsewhereDeed}
+use Rattle.chains.specs.Closed.{Headed, Ready, ready-append}
+use Rattle.armour.specs.Row.{Row, Free, Either}
+use Rattle.armour.specs.Turns.{linkBounds, Record, Turns}
+use Rattle.armour.specs.Known.{Beside, whole-block}
+use Rattle.armour.specs.Changed.{tags-records, join-ready, rest-free}
+use Rattle.armour.specs.Allocates.{firstAt, Found, taken-is, handed, kept-some, kept-fits, take-defined, take-swaps, take-row, take-ready}
+use Rattle.armour.specs.Deallocates.{return-defined, return-row, return-used, joined-free, beside-ready}
+use Rattle.armour.specs.Apart.{outside-same, rooms-same, Cramped, far, clear}
+
+-- the blocks, and the definition's answer, where t is taken and the block of s grains at x, with its payload's place d, returned
+pub record Away (n c p a : ℕ) (m : Memory) (f : Lists) (xs : List Block) (x s d i j : ℕ) (t : Taken) : Type 0 where
+  pub heap : Heap
+  pub defined : backAfter (takeAt (record { blocks = xs; lists = f }) p a (found (t .list) (t .block))) (2 * x + d) ≡ granted (2 * t .block + place a (t .block)) heap
+  pub turns : Turns n c m xs (elsewhereDeed p a x s d i j t) (heap .blocks)
+
+module _ (n c p a : ℕ) (m : Memory) (f : Lists) (al : Align a) where
+  -- the free block of g grains between k and q is taken; the used one stands between l and r, and afterwards between l' and r'
+  module _ (k q : List Block) (g : ℕ) (o : Row n c m (k ⟨⟩ free g ∷ q)) (enough : wanted p a ≤ g) (l r : List Block) (s d : ℕ) (e : k ⟨⟩ free g ∷ q ≡ l ⟨⟩ used s d ∷ r)
+      (cramped : Cramped p a l r s d) (l' r' : List Block) (e' : handed n c p a m f k q g al o enough .blocks ≡ l' ⟨⟩ used s d ∷ r') (same : total l ≡ total l') where
+    abbrev set : ℕ
+    set = place a (total k)
+
+    abbrev kept : ℕ
+    kept = keeps (place a (total k)) p
+
+    abbrev took : Heap
+    took = handed n c p a m f k q g al o enough
+
+    -- the memory when the tags of the take are written
+    abbrev mid : Memory
+    mid = apply m (allocateTags (total k) g (keeps (place a (total k)) p) (place a (total k)))
+
+    old : Row n c m (l ⟨⟩ used s d ∷ r)
+    old = subst (Row n c m) e o
+
+    apart-old : (total k + g < total l) ⊎ (total l + s < total k)
+    apart-old = far p a l r s d al (old .order) cramped (total k) g (subst (λ (zs : List Block). BlockAt (total k) (free g) 0 zs) e (at-here k q (free g))) enough
+
+    mid-row : Row n c mid (l' ⟨⟩ used s d ∷ r')
+    mid-row = subst (Row n c mid) e' (take-row n c p a m f k q g al o enough)
+
+    tag-stays : (y : ℕ) → (y < total k) ⊎ (total k + g ≤ y) → mid Tag y ≡ m Tag y
+    tag-stays y h = outside-same m (total k) g y (allocateTags (total k) g kept set) h
+        (allocate-within (total k) g kept set (kept-some n c p a m f k q g al o enough) (kept-fits n c p a m f k q g al o enough) (place-inside a (total k) p al))
+
+    rooms : (room l ≡ room l') × (room r ≡ room r')
+    rooms = rooms-same m mid l r l' r' s d (old .order) (mid-row .order) (old .tags) (mid-row .tags) same
+        (tag-stays (total l + s) (⊎-elim (λ (h : total k + g < total l). inr (omega arith)) (λ (h : total l + s < total k). inl (omega arith)) apart-old))
+        (λ some. tag-stays (total l - 1) (⊎-elim (λ (h : total k + g < total l). inr (omega arith)) (λ (h : total l + s < total k). inl (omega arith)) apart-old))
+
+    abbrev back : Heap
+    back = join (took .lists) l' s r'
+
+    abbrev allTags : List Write
+    allTags = allocateTags (total k) g (keeps (place a (total k)) p) (place a (total k)) ++ deallocateTags (total l) s d (room l) (room r)
+
+    end-row : Row n c (apply m allTags) (back .blocks)
+    end-row = subst (λ (u : Memory). Row n c u (back .blocks)) (sym (apply-append m (allocateTags (total k) g kept set) (deallocateTags (total l) s d (room l) (room r))))
+        (subst (λ (x : ℕ). Row n c (apply mid (deallocateTags x s d (room l) (room r))) (back .blocks)) (sym same)
+        (subst (λ (i : ℕ). Row n c (apply mid (deallocateTags (total l') s d i (room r))) (back .blocks)) (sym (rooms .0))
+        (subst (λ (j : ℕ). Row n c (apply mid (deallocateTags (total l') s d (room l') j)) (back .blocks)) (sym (rooms .1))
+        (return-row n c mid (took .lists) l' r' s d mid-row))))
+
+    -- the rest of what was taken stays free
+    clear-old : (total k + g ≤ total (past l)) ⊎ (total l + (s + room r) ≤ total k)
+    clear-old = clear p a l r s d al (old .order) cramped (total k) g (subst (λ (zs : List Block). BlockAt (total k) (free g) 0 zs) e (at-here k q (free g))) enough
+
+    rest-stays : (kept ≡ g → ⊥) → Free (back .blocks) (total k + kept)
+    rest-stays ne =
+        let y = total k + kept in
+        let fits = kept-fits n c p a m f k q g al o enough in
+        let row = take-row n c p a m f k q g al o enough in
+        let b = rest-free (drop (listOf g) (total k) f) k q g kept set ne in
+        let t : mid Tag y ≡ freeTag (g - kept) = first-free (mid Tag) (took .blocks) (row .order) (row .tags) y (g - kept) b in
+        let w = whole-block n c m l r s d old in
+        let v : apply m allTags Tag y ≡ mid Tag y = ap (λ (u : Memory). u Tag y) (apply-append m (allocateTags (total k) g kept set) (deallocateTags (total l) s d (room l) (room r)))
+            ∙ outside-same mid (total l - room l) (room l + (s + room r)) y (deallocateTags (total l) s d (room l) (room r))
+            (⊎-elim (λ (h : total k + g ≤ total (past l)). inl (omega (arith, ne, total-past l))) (λ (h : total l + (s + room r) ≤ total k). inr (omega (arith, total-past l))) clear-old)
+            (deallocate-within (total l) s d (room l) (room r) (w .0) (w .1) (omega (arith, total-past l))) in
+        (_, free-here (apply m allTags Tag) (back .blocks) (end-row .order) (end-row .tags) y (omega (arith, at-end y (free (g - kept)) 0 (took .blocks) b, row .whole, end-row .whole, ne)) (omega (arith, t, v)))
+
+    away : listOf g < 16 * c → Free (l ⟨⟩ used s d ∷ r) (m Next (total k)) → Free (l ⟨⟩ used s d ∷ r) (m Prev (total k))
+        → ((kept ≡ g → ⊥) → Headed (Free (l ⟨⟩ used s d ∷ r)) m (listOf (g - kept)))
+        → Beside c m (l ⟨⟩ used s d ∷ r) (total l + s) (room r) → Beside c m (l ⟨⟩ used s d ∷ r) (total l - room l) (room l)
+        → (listOf (room l + (s + room r)) < 16 * c) × Headed (Free (l ⟨⟩ used s d ∷ r)) m (listOf (room l + (s + room r)))
+        → Away n c p a m f (l ⟨⟩ used s d ∷ r) (total l) s d (room l) (room r) (firstAt (total k) g)
+    unfolding backAfter answering
+    away small nx pv rest after before joins =
+        let xs = l ⟨⟩ used s d ∷ r in
+        let ys = back .blocks in
+        let b' = linkBounds c xs ys in
+        record {
+          heap = back;
+          defined = ap (λ (zs : List Block). backAfter (takeAt (record { blocks = zs; lists = f }) p a (found (listOf g) (total k))) (2 * total l + d)) (sym e)
+              ∙ ap (λ (w : Answer). backAfter w (2 * total l + d)) (take-defined n c p a m f k q g al o enough)
+              ∙ ap (answering (2 * total k + set)) (ap (λ (zs : List Block). giveBack (record { blocks = zs; lists = took .lists }) (2 * total l + d)) e'
+              ∙ ap (λ (x : ℕ). giveBack (record { blocks = l' ⟨⟩ used s d ∷ r'; lists = took .lists }) (2 * x + d)) same
+              ∙ return-defined n c mid (took .lists) l' r' s d mid-row);
+          turns = record {
+            row = end-row;
+            records = each-append Record (allocateTags (total k) g kept set) (deallocateTags (total l) s d (room l) (room r))
+                (tags-records (allocateTags (total k) g kept set) (allocate-field (total k) g kept set))
+                (tags-records (deallocateTags (total l) s d (room l) (room r)) (deallocate-field (total l) s d (room l) (room r)));
+            ready = ready-append b' m (besideSteps (total l) s (room l) (room r) ++ takenSteps p a (firstAt (total k) g)) (joinSteps (total l) s (room l) (room r))
+                (ready-append b' m (besideSteps (total l) s (room l) (room r)) (takenSteps p a (firstAt (total k) g)) (beside-ready n c m f l r s d old ys after before)
+                (subst (λ (zs : List Block). Ready (linkBounds c zs ys) m (takenSteps p a (firstAt (total k) g))) e
+                (take-ready n c p a m f k q g al o enough ys small (subst (λ (zs : List Block). Free zs (m Next (total k))) (sym e) nx) (subst (λ (zs : List Block). Free zs (m Prev (total k))) (sym e) pv)
+                (λ ne. subst (λ (zs : List Block). Headed (Free zs) m (listOf (g - kept))) (sym e) (rest ne)) rest-stays)))
+                (join-ready c m xs ys (total l - room l) (room l + (s + room r)) (joins .0) joined (joins .1));
+            guards = ((g, subst (λ (zs : List Block). BlockAt (total k) (free g) 0 zs) e (at-here k q (free g))), tt);
+            used-before = λ x t v b. ⊎-elim
+                (λ (i : (x ≡ total k) × (used kept set ≡ used t v)). inl (inl (i .0)))
+                (λ (i : BlockAt x (used t v) 0 (k ⟨⟩ free g ∷ q)). inr (t, v, subst (λ (zs : List Block). BlockAt x (used t v) 0 zs) e i))
+                (take-swaps n c p a m f k q g al o enough .back x (used t v) tt
+                (subst (λ (zs : List Block). BlockAt x (used t v) 0 zs) (sym e') (return-used n c mid (took .lists) l' r' s d mid-row x t v b)));
+          };
+        }
+      where
+        joined : Free (join (handed n c p a m f k q g al o enough .lists) l' s r' .blocks) (total l - room l)
+        joined = subst (λ (z : ℕ). Free (join (took .lists) l' s r' .blocks) z) (omega (arith, same, rooms .0)) (joined-free n c mid (took .lists) l' r' s d mid-row)
+
+  -- whatever block was found
+  pub elsewhere-turns : (l r : List Block) (s d : ℕ) (t : Taken) → Row n c m (l ⟨⟩ used s d ∷ r) → Cramped p a l r s d → Found n c p a m (l ⟨⟩ used s d ∷ r) t
+      → Beside c m (l ⟨⟩ used s d ∷ r) (total l + s) (room r) → Beside c m (l ⟨⟩ used s d ∷ r) (total l - room l) (room l)
+      → (listOf (room l + (s + room r)) < 16 * c) × Headed (Free (l ⟨⟩ used s d ∷ r)) m (listOf (room l + (s + room r)))
+      → Away n c p a m f (l ⟨⟩ used s d ∷ r) (total l) s d (room l) (room r) t
+  elsewhere-turns l r s d t o cramped v after before joins =
+      let xs = l ⟨⟩ used s d ∷ r in
+      let st = stands-at (t .block) (free (t .grains)) xs (v .there) in
+      let k = st .before in
+      let q = st .behind in
+      let g = t .grains in
+      let o' : Row n c m (k ⟨⟩ free g ∷ q) = subst (Row n c m) (st .whole) o in
+      let b : BlockAt (total l) (used s d) 0 (handed n c p a m f k q g al o' (v .enough) .blocks) = ⊎-elim
+          (λ (i : (total l ≡ total k) × (free g ≡ used s d)). absurd (free-used (sym (i .1)))) (λ (i : BlockAt (total l) (used s d) 0 (handed n c p a m f k q g al o' (v .enough) .blocks)). i)
+          (take-swaps n c p a m f k q g al o' (v .enough) .forth (total l) (used s d) tt (subst (λ (zs : List Block). BlockAt (total l) (used s d) 0 zs) (st .whole) (at-here l r (used s d)))) in
+      let w = stands-at (total l) (used s d) (handed n c p a m f k q g al o' (v .enough) .blocks) b in
+      let e = taken-is t (listOf g) (total k) g (sym (v .class)) (st .place) refl in
+      subst (Away n c p a m f xs (total l) s d (room l) (room r)) e
+      (away k q g o' (v .enough) l r s d (sym (st .whole)) cramped (w .before) (w .behind) (w .whole) (w .place)
+      (subst (λ (j : ℕ). j < 16 * c) (sym (v .class)) (v .small)) (subst (λ (y : ℕ). Free xs (m Next y)) (st .place) (v .next)) (subst (λ (y : ℕ). Free xs (m Prev y)) (st .place) (v .prev))
+      (subst (λ (y : ℕ). (keeps (place a y) p ≡ g → ⊥) → Headed (Free xs) m (listOf (g - keeps (place a y) p))) (st .place) (v .rest)) after before joins)
