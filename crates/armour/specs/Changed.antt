@@ -83,7 +83,7 @@ leave-left n c f g l r t e k d o i w p q j =
 -- ---- steps
 
 module _ (c : ℕ) (m : Memory) (xs ys : List Block) where
-  either-headed : (k : ℕ) → Headed (Free xs) m k → Headed (Either xs ys) m k
+  pub either-headed : (k : ℕ) → Headed (Free xs) m k → Headed (Either xs ys) m k
   either-headed k (inl e) = inl e
   either-headed k (inr h) = inr (inl h)
 

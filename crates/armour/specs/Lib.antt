@@ -14,3 +14,6 @@ pub mod Resizes
 pub mod Carried
 pub mod Moved
 pub mod Reallocates
+pub mod Laid
+pub mod Inserts
+pub mod Regions

@@ -7,3 +7,12 @@ pub mod Reallocate
 pub mod Regions
 pub mod Checked
 pub mod Planned
+pub mod Costs
+pub mod FewChecks
+pub mod Few
+pub mod Lengths
+pub mod Storable
+pub mod StorableParts
+pub mod StorableCalls
+pub mod StorableResize
+pub mod StorableRegion
