@@ -1,6 +1,6 @@
 -- T11, allocate: on any memory whose tags are those of blocks, it is refused, or hands out part of a free block of a list that is
 -- searched, and the tags become those that the definition leaves.
-use Prim.Native.Nat.{ℕ, suc, _+_, _-_, _*_, _≤_, _<_}
+use Prim.Native.Nat.{ℕ, suc, _+_, _-_, _*_, _%_, _≤_, _<_}
 use native.Mathlib.Omega.{arith}
 use mathlib.Core.Path.{_≡_, refl, ap, sym, _∙_, subst}
 use mathlib.Core.List.{List, [], _∷_, _++_}
@@ -14,8 +14,8 @@ use Rattle.invariants.specs.Order.{out, Inside, first-half, order-split, total-
 use Rattle.invariants.specs.Members.{Mem}
 use Rattle.invariants.specs.Moves.{occupy}
 use Rattle.invariants.specs.Gaps.{gap-free, gap-used}
-use Rattle.invariants.specs.Placing.{Align, align-pos, place-some, keeps-some, place-inside, keeps-wanted, wanted-some}
-use Rattle.invariants.specs.Promises.{leave-keeps, leave-only}
+use Rattle.invariants.specs.Placing.{Align, align-pos, place-some, place-aligned, keeps-some, keeps-holds, place-inside, keeps-wanted, wanted-some}
+use Rattle.invariants.specs.Promises.{leave-here, leave-keeps, leave-only}
 use Rattle.script.specs.Memory.{Memory, Next, Prev, Mark, apply}
 use Rattle.script.specs.Script.{Gives, inv-bind}
 use Rattle.sound.specs.Swaps.{Swaps}
@@ -108,7 +108,15 @@ pub record AllocateArmoured (n c p a : ℕ) (m : Memory) (xs : List Block) (f : 
   pub was-free : BlockAt block (free grains) 0 xs
   pub searched : (startOf (wanted p a) ≤ listOf grains) × (listOf grains < 16 * c)
   pub enough : wanted p a ≤ grains
+  -- what is handed out: k grains of it, with the payload's place d
+  pub k : ℕ
+  pub d : ℕ
+  pub payload : t .answer ≡ 2 * block + d
+  pub aligned : t .answer % a ≡ 0
+  pub long : d + p ≤ 2 * k
   pub heap : Heap
+  pub here : BlockAt block (used k d) 0 (heap .blocks)
+  pub swaps : Swaps xs (heap .blocks) block (free grains) block (used k d)
   pub defined : takeAt (record { blocks = xs; lists = f }) p a (found (listOf grains) block) ≡ granted (t .answer) heap
   pub armoured : Armoured n c m xs t (heap .blocks)
 
@@ -167,7 +175,14 @@ allocate-armoured n c p a m xs f t al o g =
       was-free = k .there;
       searched = (k .low, k .small);
       enough = k .enough;
+      k = keeps (place a (total l)) p;
+      d = place a (total l);
+      payload = refl;
+      aligned = place-aligned a (total l) (align-pos a al);
+      long = keeps-holds (place a (total l)) p;
       heap = h;
+      here = leave-here (drop (listOf s) (total l) f) l r s (keeps (place a (total l)) p) (place a (total l)) (kept-fits n c p a m f l r s al o (k .enough));
+      swaps = take-swaps n c p a m f l r s al o (k .enough);
       defined = take-defined n c p a m f l r s al o (k .enough);
       armoured = turns-armoured n c m _ _ (h .blocks) (take-turns n c p a m f l r s al o (k .enough)
           (ready-append _ m (takenSteps p a _) [] (take-ready n c p a m f l r s al o (k .enough) (h .blocks) (k .small) (k .next) (k .prev) (k .rest)

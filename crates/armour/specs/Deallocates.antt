@@ -9,14 +9,14 @@ use Rattle.class.specs.Class.{listOf}
 use Rattle.definition.specs.Blocks.{Block, free, used, gap, total, _⟨⟩_, Place, room, past}
 use Rattle.definition.specs.Lists.{Lists}
 use Rattle.definition.specs.Calls.{Heap, granted, join, giveBack, giveBackAt}
-use Rattle.invariants.specs.Order.{out, order-split, total-zip, BlockAt, at-here, stands-at, payload-at}
+use Rattle.invariants.specs.Order.{out, order-split, total-zip, BlockAt, Apart, same, before, behind, apart, at-here, at-whole, stands-at, payload-at}
 use Rattle.invariants.specs.Moves.{free-used}
 use Rattle.invariants.specs.Neighbours.{total-past, join-ok}
 use Rattle.invariants.specs.Kept.{kept-join, kept-join-back}
 use Rattle.invariants.specs.Gaps.{gap-free, gap-used}
 use Rattle.script.specs.Memory.{Memory, apply}
 use Rattle.script.specs.Script.{Gives, inv-bind}
-use Rattle.sound.specs.Swaps.{Swaps}
+use Rattle.sound.specs.Swaps.{Swaps, owner-unique}
 use Rattle.tags.specs.Writes.{deallocateTags}
 use Rattle.tags.specs.Within.{deallocate-field}
 use Rattle.tags.specs.Stamped.{deallocate-tagged}
@@ -70,6 +70,20 @@ module _ (n c : ℕ) (m : Memory) (f : Lists) (l r : List Block) (s d : ℕ) (o 
       (λ (q : BlockAt x (used t e) 0 (l ⟨⟩ used s d ∷ r)). q)
       (return-swaps .back x (used t e) tt b)
 
+  -- no used block stands where the block did
+  pub return-none : (x t e : ℕ) → BlockAt x (used t e) 0 (join f l s r .blocks) → x ≡ total l → ⊥
+  unfolding join
+  return-none x t e b q = go (apart x (total (past l)) 0 (used t e) (free (room l + (s + room r))) (join f l s r .blocks) b (at-here (past l) (past r) (free (room l + (s + room r)))))
+    where
+      go : Apart x (used t e) (total (past l)) (free (room l + (s + room r))) → ⊥
+      go (same a b) = free-used b
+      go (before a) = omega (arith, total-past l, at-whole x (used t e) 0 out (join f l s r .blocks) (return-row .order) b .0)
+      go (behind a) = omega (arith, total-past l, whole-block n c m l r s d o .0)
+
+  -- the payload is no longer live
+  pub return-gone : (x t e : ℕ) → BlockAt x (used t e) 0 (join f l s r .blocks) → 2 * total l + d ≡ 2 * x + e → ⊥
+  return-gone x t e b q = return-none x t e b (owner-unique (l ⟨⟩ used s d ∷ r) x t e (total l) s d (o .order) (return-used x t e b) (at-here l r (used s d)) (sym q) .0)
+
   pub return-turns : Ready (linkBounds c (l ⟨⟩ used s d ∷ r) (join f l s r .blocks)) m (besideSteps (total l) s (room l) (room r) ++ joinSteps (total l) s (room l) (room r))
       → Turns n c m (l ⟨⟩ used s d ∷ r) (deallocateDeed (total l) s d (room l) (room r)) (join f l s r .blocks)
   return-turns ready = record {
@@ -94,6 +108,11 @@ pub record DeallocateArmoured (n c q : ℕ) (m : Memory) (xs : List Block) (f : 
   pub was-used : BlockAt block (used grains place) 0 xs
   pub payload : q ≡ 2 * block + place
   pub heap : Heap
+  -- the payload is no longer live, and every other block in use stays
+  pub gone : (x s d : ℕ) → BlockAt x (used s d) 0 (heap .blocks) → q ≡ 2 * x + d → ⊥
+  pub start : ℕ
+  pub grown : ℕ
+  pub swaps : Swaps xs (heap .blocks) block (used grains place) start (free grown)
   pub defined : giveBack (record { blocks = xs; lists = f }) q ≡ granted (t .answer) heap
   pub armoured : Armoured n c m xs t (heap .blocks)
 
@@ -140,6 +159,10 @@ deallocate-armoured n c q m xs f t o g =
           was-used = at-here l r (used s d);
           payload = refl;
           heap = join f l s r;
+          gone = return-gone n c m f l r s d o;
+          start = total (past l);
+          grown = room l + (s + room r);
+          swaps = return-swaps n c m f l r s d o;
           defined = return-defined n c m f l r s d o;
           armoured = turns-armoured n c m (l ⟨⟩ used s d ∷ r) (deallocateDeed (total l) s d (room l) (room r)) (join f l s r .blocks) (return-turns n c m f l r s d o
               (ready-append (linkBounds c (l ⟨⟩ used s d ∷ r) (join f l s r .blocks)) m (besideSteps (total l) s (room l) (room r)) (joinSteps (total l) s (room l) (room r)) (beside-ready n c m f l r s d o (join f l s r .blocks) p q)

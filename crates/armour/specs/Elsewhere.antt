@@ -13,7 +13,10 @@ use Rattle.invariants.specs.Order.{BlockAt, at-here, at-end, stands-at}
 use Rattle.invariants.specs.Moves.{free-used}
 use Rattle.invariants.specs.Neighbours.{total-past}
 use Rattle.invariants.specs.Placing.{Align, place-inside}
+use Rattle.invariants.specs.Kept.{solid-free}
+use Rattle.invariants.specs.Promises.{leave-here}
 use Rattle.script.specs.Memory.{Memory, Next, Prev, Write, apply, apply-append}
+use Rattle.sound.specs.Swaps.{Swaps}
 use Rattle.tags.specs.Tag.{Tag, flags, START, FREE, freeTag}
 use Rattle.tags.specs.Each.{each-append}
 use Rattle.tags.specs.Decode.{first-free, free-here}
@@ -28,7 +31,7 @@ use Rattle.armour.specs.Turns.{linkBounds, Record, Turns}
 use Rattle.armour.specs.Known.{Beside, whole-block}
 use Rattle.armour.specs.Changed.{tags-records, join-ready, rest-free}
 use Rattle.armour.specs.Allocates.{firstAt, Found, taken-is, handed, kept-some, kept-fits, take-defined, take-swaps, take-row, take-ready}
-use Rattle.armour.specs.Deallocates.{return-defined, return-row, return-used, joined-free, beside-ready}
+use Rattle.armour.specs.Deallocates.{return-defined, return-row, return-swaps, return-used, return-none, joined-free, beside-ready}
 use Rattle.armour.specs.Apart.{outside-same, rooms-same, Cramped, far, clear}
 
 -- the blocks, and the definition's answer, where t is taken and the block of s grains at x, with its payload's place d, returned
@@ -36,6 +39,9 @@ pub record Away (n c p a : ℕ) (m : Memory) (f : Lists) (xs : List Block) (x s 
   pub heap : Heap
   pub defined : backAfter (takeAt (record { blocks = xs; lists = f }) p a (found (t .list) (t .block))) (2 * x + d) ≡ granted (2 * t .block + place a (t .block)) heap
   pub turns : Turns n c m xs (elsewhereDeed p a x s d i j t) (heap .blocks)
+  pub here : BlockAt (t .block) (used (keeps (place a (t .block)) p) (place a (t .block))) 0 (heap .blocks)
+  pub swaps : Swaps xs (heap .blocks) x (used s d) (t .block) (used (keeps (place a (t .block)) p) (place a (t .block)))
+  pub gone : (y u v : ℕ) → BlockAt y (used u v) 0 (heap .blocks) → y ≡ x → ⊥
 
 module _ (n c p a : ℕ) (m : Memory) (f : Lists) (al : Align a) where
   -- the free block of g grains between k and q is taken; the used one stands between l and r, and afterwards between l' and r'
@@ -103,6 +109,35 @@ module _ (n c p a : ℕ) (m : Memory) (f : Lists) (al : Align a) where
             (deallocate-within (total l) s d (room l) (room r) (w .0) (w .1) (omega (arith, total-past l))) in
         (_, free-here (apply m allTags Tag) (back .blocks) (end-row .order) (end-row .tags) y (omega (arith, at-end y (free (g - kept)) 0 (took .blocks) b, row .whole, end-row .whole, ne)) (omega (arith, t, v)))
 
+    away-swaps : Swaps (l ⟨⟩ used s d ∷ r) (back .blocks) (total l) (used s d) (total k) (used (keeps (place a (total k)) p) (place a (total k)))
+    away-swaps = record {
+      forth = λ y b v h. ⊎-elim
+          (λ (i : (y ≡ total k) × (free g ≡ b)). absurd (solid-free b v (i .1)))
+          (λ (i : BlockAt y b 0 (took .blocks)). ⊎-elim
+          (λ (j : (y ≡ total l') × (used s d ≡ b)). inl (j .0 ∙ sym same, j .1))
+          (λ (j : BlockAt y b 0 (back .blocks)). inr j)
+          (return-swaps n c mid (took .lists) l' r' s d mid-row .forth y b v (subst (λ (zs : List Block). BlockAt y b 0 zs) e' i)))
+          (take-swaps n c p a m f k q g al o enough .forth y b v (subst (λ (zs : List Block). BlockAt y b 0 zs) (sym e) h));
+      back = λ y b v h. ⊎-elim
+          (λ (i : (y ≡ total (past l')) × (free (room l' + (s + room r')) ≡ b)). absurd (solid-free b v (i .1)))
+          (λ (i : BlockAt y b 0 (l' ⟨⟩ used s d ∷ r')). ⊎-elim
+          (λ (j : (y ≡ total k) × (used kept set ≡ b)). inl j)
+          (λ (j : BlockAt y b 0 (k ⟨⟩ free g ∷ q)). inr (subst (λ (zs : List Block). BlockAt y b 0 zs) e j))
+          (take-swaps n c p a m f k q g al o enough .back y b v (subst (λ (zs : List Block). BlockAt y b 0 zs) (sym e') i)))
+          (return-swaps n c mid (took .lists) l' r' s d mid-row .back y b v h);
+    }
+
+    away-here : BlockAt (total k) (used (keeps (place a (total k)) p) (place a (total k))) 0 (back .blocks)
+    away-here = ⊎-elim
+        (λ (j : (total k ≡ total l') × (used s d ≡ used kept set)). absurd (⊎-elim (λ (h : total k + g < total l). omega (arith, j .0, same)) (λ (h : total l + s < total k). omega (arith, j .0, same)) apart-old))
+        (λ (j : BlockAt (total k) (used kept set) 0 (back .blocks)). j)
+        (return-swaps n c mid (took .lists) l' r' s d mid-row .forth (total k) (used kept set) tt
+        (subst (λ (zs : List Block). BlockAt (total k) (used kept set) 0 zs) e' (leave-here (drop (listOf g) (total k) f) k q g kept set (kept-fits n c p a m f k q g al o enough))))
+
+    -- no used block stands where the old one did
+    away-gone : (y u v : ℕ) → BlockAt y (used u v) 0 (back .blocks) → y ≡ total l → ⊥
+    away-gone y u v b i = return-none n c mid (took .lists) l' r' s d mid-row y u v b (i ∙ same)
+
     away : listOf g < 16 * c → Free (l ⟨⟩ used s d ∷ r) (m Next (total k)) → Free (l ⟨⟩ used s d ∷ r) (m Prev (total k))
         → ((kept ≡ g → ⊥) → Headed (Free (l ⟨⟩ used s d ∷ r)) m (listOf (g - kept)))
         → Beside c m (l ⟨⟩ used s d ∷ r) (total l + s) (room r) → Beside c m (l ⟨⟩ used s d ∷ r) (total l - room l) (room l)
@@ -115,6 +150,9 @@ module _ (n c p a : ℕ) (m : Memory) (f : Lists) (al : Align a) where
         let b' = linkBounds c xs ys in
         record {
           heap = back;
+          here = away-here;
+          swaps = away-swaps;
+          gone = away-gone;
           defined = ap (λ (zs : List Block). backAfter (takeAt (record { blocks = zs; lists = f }) p a (found (listOf g) (total k))) (2 * total l + d)) (sym e)
               ∙ ap (λ (w : Answer). backAfter w (2 * total l + d)) (take-defined n c p a m f k q g al o enough)
               ∙ ap (answering (2 * total k + set)) (ap (λ (zs : List Block). giveBack (record { blocks = zs; lists = took .lists }) (2 * total l + d)) e'

@@ -5,15 +5,17 @@ use native.Mathlib.Omega.{arith}
 use mathlib.Core.Path.{_≡_, refl, ap, sym, _∙_, subst}
 use mathlib.Core.List.{List, [], _∷_, _++_}
 use mathlib.Core.Logic.{_⊎_, inl, inr, ⊎-elim}
-use Rattle.choice.specs.Choice.{eq-yes, eq-no, eq-case, le-yes, le-no}
+use Rattle.choice.specs.Choice.{eq-yes, eq-no, eq-case, le?, le-yes, le-no}
 use Rattle.definition.specs.Blocks.{Block, free, used, gap, total, _⟨⟩_, Place, room, past}
 use Rattle.definition.specs.Lists.{Lists, skip}
 use Rattle.definition.specs.Calls.{Heap, granted, place, keeps, leave, down, elsewhere, resize, resizeAt}
-use Rattle.invariants.specs.Order.{out, Inside, order-split, total-zip, BlockAt, at-here, payload-at}
+use Rattle.invariants.specs.Order.{out, Inside, order-split, total-zip, BlockAt, Apart, same, before, behind, apart, at-here, at-whole, payload-at}
 use Rattle.invariants.specs.Neighbours.{total-past, order-past, swallow-behind, swallow}
 use Rattle.invariants.specs.Kept.{kept-stretch, kept-stretch-back, kept-stretch-split, kept-stretch-split-back, kept-down, kept-down-back, kept-down-split, kept-down-split-back}
 use Rattle.invariants.specs.Gaps.{gap-used}
 use Rattle.invariants.specs.Placing.{Align, align-pos, place-some, keeps-some, keeps-holds, place-inside}
+use Rattle.invariants.specs.Promises.{leave-here}
+use Rattle.invariants.specs.Moves.{free-used}
 use Rattle.script.specs.Memory.{Memory}
 use Rattle.sound.specs.Swaps.{Swaps}
 use Rattle.tags.specs.Writes.{stretchTags, downTags}
@@ -27,7 +29,7 @@ use Rattle.armour.specs.Row.{Row, Free}
 use Rattle.armour.specs.Listing.{listing, listing-sane}
 use Rattle.armour.specs.Turns.{linkBounds, Turns}
 use Rattle.armour.specs.Known.{whole-block}
-use Rattle.armour.specs.Changed.{tags-records, row-changed, Left, leave-left}
+use Rattle.armour.specs.Changed.{tags-records, row-changed, rest-free, Left, leave-left}
 
 module _ (n c p a : ℕ) (m : Memory) (f : Lists) (l r : List Block) (s d : ℕ) (al : Align a) (o : Row n c m (l ⟨⟩ used s d ∷ r)) where
   abbrev pub here : Heap
@@ -150,6 +152,29 @@ module _ (n c p a : ℕ) (m : Memory) (f : Lists) (l r : List Block) (s d : ℕ)
     down-left = leave-left n c _ (skip l low (skip r (total l + s) f)) (past l) (past r) all 1 lowKept (place a low)
         (swallow c _ l r s d (listing-sane c (l ⟨⟩ used s d ∷ r) (o .order) (o .short))) (order-past r (order-split l (used s d ∷ r) (o .order) .1 .2))
         (omega (arith, total-zip l (used s d ∷ r), total-past l, total-past r, o .whole)) low-some le (place-inside a low p al)
+
+    -- no used block but the new one stands where the old one did
+    pub down-gone : (y t u : ℕ) → BlockAt y (used t u) 0 (lowered .blocks) → (y ≡ low → ⊥) → y ≡ total l → ⊥
+    down-gone y t u b ne e =
+        let h = leave-here (skip l low (skip r (total l + s) f)) (past l) (past r) all lowKept (place a low) le in
+        ⊎-elim
+        (λ (i : total l < low + lowKept). inside-new i (apart low y 0 (used lowKept (place a low)) (used t u) (lowered .blocks) h b))
+        (λ (i : low + lowKept ≤ total l). inside-rest i (apart (low + lowKept) y 0 (free (all - lowKept)) (used t u) (lowered .blocks)
+        (rest-free (skip l low (skip r (total l + s) f)) (past l) (past r) all lowKept (place a low) (omega (arith, total-past l, inside .0))) b))
+        (⊎-elim (λ (i : low + lowKept ≤ total l). inr i) (λ (i : total l < low + lowKept). inl i) (le? (low + lowKept) (total l)))
+      where
+        some-grains : 1 ≤ t
+        some-grains = at-whole y (used t u) 0 out (lowered .blocks) (down-left .order) b .0
+
+        inside-new : total l < low + lowKept → Apart low (used lowKept (place a low)) y (used t u) → ⊥
+        inside-new i (same q v) = ne (sym q)
+        inside-new i (before q) = omega arith
+        inside-new i (behind q) = omega (arith, total-past l, some-grains)
+
+        inside-rest : low + lowKept ≤ total l → Apart (low + lowKept) (free (all - lowKept)) y (used t u) → ⊥
+        inside-rest i (same q v) = free-used (sym v)
+        inside-rest i (before q) = omega (arith, total-past l, inside .0)
+        inside-rest i (behind q) = omega (arith, some-grains)
 
     pub down-turns : (room l ≡ 0 → ⊥) → Free (l ⟨⟩ used s d ∷ r) low
         → Ready (linkBounds c (l ⟨⟩ used s d ∷ r) (lowered .blocks)) m (besideSteps (total l) s (room l) (room r) ++ restSteps low all lowKept)

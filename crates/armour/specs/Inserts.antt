@@ -14,7 +14,7 @@ use Rattle.invariants.specs.Order.{out, busy, idle, sideL, Ordered, order-split
 use Rattle.invariants.specs.Pieces.{pieces, Listed}
 use Rattle.invariants.specs.Moves.{Sane, free-used, free-gap}
 use Rattle.invariants.specs.Gaps.{Spot, gaps-spot, spot-inside, total-gaps, gaps-behind, gaps-cases, gap-used, gap-last}
-use Rattle.invariants.specs.Regions.{laidOut, gap-out, lay-ok, lay-total, lay-keeps, another, insert-spot, append-spot}
+use Rattle.invariants.specs.Regions.{laidOut, gap-out, lay-ok, lay-total, lay-old, lay-keeps, another, insert-spot, append-spot}
 use Rattle.script.specs.Memory.{Memory, Table, Write, apply, apply-append, apply-untouched, Untouched}
 use Rattle.script.specs.Script.{Script, done, stop, no, ok, run, unlessLe, mustEq, mustLe, Gives, inv-bind, inv-get, inv-le, inv-eq}
 use Rattle.sound.specs.Sound.{InTable, Given}
@@ -134,7 +134,7 @@ module _ (n c : ℕ) (m : Memory) (xs : List Block) (o : Row n c m xs) (g len : 
         (λ y s k. (s, at-join y (free s) (laying .left) (gaps (laying .over) (p .rest)) (inl k)))) tt
 
     -- no used block comes
-    region-used : (x s d : ℕ) → BlockAt x (used s d) 0 given → BlockAt x (used s d) 0 xs
+    pub region-used : (x s d : ℕ) → BlockAt x (used s d) 0 given → BlockAt x (used s d) 0 xs
     region-used x s d b =
         let e = lay-total c big len f (p .before) len in
         subst (λ (zs : List Block). BlockAt x (used s d) 0 zs) (sym (p .whole)) (at-join x (used s d) (p .before) (gaps len (p .rest)) (⊎-elim
@@ -144,6 +144,18 @@ module _ (n c : ℕ) (m : Memory) (xs : List Block) (o : Row n c m xs) (g len : 
         (λ (k : BlockAt x (used s d) (total (laying .left) + laying .over) (p .rest)). inr (gaps-behind len x (total (p .before)) (used s d) (p .rest) (rw e at k)))
         (gaps-cases (laying .over) x (total (laying .left)) (used s d) (p .rest) h))
         (at-split x (used s d) (laying .left) (gaps (laying .over) (p .rest)) b)))
+
+    -- and none goes
+    pub region-stays : (x s d : ℕ) → BlockAt x (used s d) 0 xs → BlockAt x (used s d) 0 given
+    region-stays x s d b =
+        let e = lay-total c big len f (p .before) len in
+        at-join x (used s d) (laying .left) (gaps (laying .over) (p .rest)) (⊎-elim
+        (λ (h : LeftAt x (used s d) (p .before)). inl (lay-old c big len f (p .before) len x (used s d) h))
+        (λ (h : BlockAt x (used s d) (total (p .before)) (gaps len (p .rest))). ⊎-elim
+        (λ (k : (total (p .before) ≤ x) × (x < total (p .before) + len) × (gap ≡ used s d)). absurd (gap-used (sym (k .2))))
+        (λ (k : BlockAt x (used s d) (total (p .before) + len) (p .rest)). inr (gaps-behind (laying .over) x (total (laying .left)) (used s d) (p .rest) (rw (sym e) at k)))
+        (gaps-cases len x (total (p .before)) (used s d) (p .rest) h))
+        (at-split x (used s d) (p .before) (gaps len (p .rest)) (subst (λ (zs : List Block). BlockAt x (used s d) 0 zs) (p .whole) b)))
 
     pub region-turns : Heads c (Headed (Free xs) m) len → Turns n c m xs (regionDeed c (m Table 0) g len) given
     region-turns h = record {

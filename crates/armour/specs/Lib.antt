@@ -17,3 +17,6 @@ pub mod Reallocates
 pub mod Laid
 pub mod Inserts
 pub mod Regions
+pub mod Calls
+pub mod Ledger
+pub mod Runs

@@ -11,10 +11,11 @@ use Rattle.definition.specs.Lists.{Lists, skip, found}
 use Rattle.definition.specs.Calls.{Heap, Answer, granted, wanted, place, keeps, leave, takeAt, backAfter, elsewhere, resize}
 use Rattle.invariants.specs.Order.{BlockAt, at-here}
 use Rattle.invariants.specs.Neighbours.{total-past}
-use Rattle.invariants.specs.Placing.{Align}
+use Rattle.invariants.specs.Placing.{Align, align-pos, place-aligned, keeps-holds}
 use Rattle.invariants.specs.Promises.{leave-here}
 use Rattle.script.specs.Memory.{Memory}
 use Rattle.script.specs.Script.{Gives, inv-bind}
+use Rattle.sound.specs.Swaps.{Swaps}
 use Rattle.chains.specs.Closed.{Ready, ready-append}
 use Rattle.plans.specs.Deeds.{Deed, Plan, planOf}
 use Rattle.plans.specs.Checks.{seeOwner, seeGuard}
@@ -26,10 +27,10 @@ use Rattle.armour.specs.Row.{Row, Free}
 use Rattle.armour.specs.Turns.{linkBounds, Turns, Armoured, turns-armoured}
 use Rattle.armour.specs.Changed.{rest-free, leave-ready, rest-ready}
 use Rattle.armour.specs.Deallocates.{at-owner, beside-ready}
-use Rattle.armour.specs.InPlace.{here, stay-turns, stay-defined, stretched, stretch-defined, stretch-turns, lowered, down-defined, down-turns, elsewhere-defined}
+use Rattle.armour.specs.InPlace.{here, stay-turns, stay-defined, stretched, stretch-defined, stretch-swaps, stretch-turns, lowered, down-defined, down-swaps, down-gone, down-turns, elsewhere-defined}
 use Rattle.armour.specs.Apart.{Cramped}
 use Rattle.armour.specs.Elsewhere.{Away, elsewhere-turns}
-use Rattle.armour.specs.Resizes.{Both, Resized, stays, stretches, lowers, moves, resize-known}
+use Rattle.armour.specs.Resizes.{Both, Step, stays, stretches, lowers, moves, resize-known}
 use Rattle.armour.specs.Carried.{Carried}
 use Rattle.armour.specs.Moved.{before-free, down-carried, elsewhere-carried}
 
@@ -44,6 +45,21 @@ pub data Payload (q x s d : ℕ) (ys : List Block) (t : Plan) : Type 0 where
   kept : (k : ℕ) → BlockAt x (used k d) 0 ys → t .answer ≡ q → t .moved ≡ 0 → Payload q x s d ys t
   arrives : Carried q (2 * s - d) t → Payload q x s d ys t
 
+-- the block at z, of k grains, with the payload's place e, in the place of the one at x
+pub record Resized (c p a : ℕ) (xs ys : List Block) (x s d q v : ℕ) : Type 0 where
+  pub z : ℕ
+  pub k : ℕ
+  pub e : ℕ
+  pub here : BlockAt z (used k e) 0 ys
+  pub payload : v ≡ 2 * z + e
+  pub long : e + p ≤ 2 * k
+  pub aligned : (v ≡ q) ⊎ (v % a ≡ 0)
+  pub swaps : Swaps xs ys x (used s d) z (used k e)
+  -- it starts where the block stood, or where a free block did
+  pub old : (z ≡ x) ⊎ Free xs z
+  -- and no other used block stands there
+  pub gone : (y t u : ℕ) → BlockAt y (used t u) 0 ys → (y ≡ z → ⊥) → y ≡ x → ⊥
+
 pub record ReallocateArmoured (n c q p a : ℕ) (m : Memory) (xs : List Block) (f : Lists) (t : Plan) : Type 0 where
   pub block : ℕ
   pub grains : ℕ
@@ -51,6 +67,8 @@ pub record ReallocateArmoured (n c q p a : ℕ) (m : Memory) (xs : List Block) (
   pub was-used : BlockAt block (used grains place) 0 xs
   pub owner : q ≡ 2 * block + place
   pub heap : Heap
+  -- its block afterwards; every other block in use stays
+  pub resized : Resized c p a xs (heap .blocks) block grains place q (t .answer)
   pub defined : Answered c (record { blocks = xs; lists = f }) q p a (t .answer) heap
   pub armoured : Armoured n c m xs t (heap .blocks)
   -- q is a multiple of a: the public call refuses every other alignment
@@ -61,6 +79,7 @@ pub record ReallocateArmoured (n c q p a : ℕ) (m : Memory) (xs : List Block) (
 -- a deed for it
 pub record Turned (n c p a : ℕ) (m : Memory) (f : Lists) (l r : List Block) (s d : ℕ) (t : Deed) : Type 0 where
   pub heap : Heap
+  pub resized : Resized c p a (l ⟨⟩ used s d ∷ r) (heap .blocks) (total l) s d (2 * total l + d) (t .answer)
   pub defined : Answered c (record { blocks = l ⟨⟩ used s d ∷ r; lists = f }) (2 * total l + d) p a (t .answer) heap
   pub turns : Turns n c m (l ⟨⟩ used s d ∷ r) t (heap .blocks)
   pub payload : (2 * total l + d) % a ≡ 0 → Payload (2 * total l + d) (total l) s d (heap .blocks) (planOf m t)
@@ -69,9 +88,21 @@ module _ (n c p a : ℕ) (m : Memory) (f : Lists) (l r : List Block) (s d : ℕ)
   abbrev xs : List Block
   xs = l ⟨⟩ used s d ∷ r
 
-  pub turned : {t : Deed} → Resized n c p a m l r s d t → Turned n c p a m f l r s d t
+  pub turned : {t : Deed} → Step n c p a m l r s d t → Turned n c p a m f l r s d t
   turned (stays e) = record {
     heap = here n c p a m f l r s d al o;
+    resized = record {
+      z = total l;
+      k = s;
+      e = d;
+      here = at-here l r (used s d);
+      payload = refl;
+      long = subst (λ (k : ℕ). d + p ≤ 2 * k) e (keeps-holds d p);
+      aligned = inl refl;
+      swaps = record { forth = λ y b v h. inr h; back = λ y b v h. inr h };
+      old = inl refl;
+      gone = λ y t u b ne q. ne q;
+    };
     defined = alone (stay-defined n c p a m f l r s d al o e);
     turns = stay-turns n c p a m f l r s d al o;
     payload = λ _. kept s (at-here l r (used s d)) refl refl;
@@ -81,6 +112,18 @@ module _ (n c p a : ℕ) (m : Memory) (f : Lists) (l r : List Block) (s d : ℕ)
       let w = linkBounds c xs (g .blocks) in
       record {
         heap = g;
+        resized = record {
+          z = total l;
+          k = keeps d p;
+          e = d;
+          here = leave-here (skip r (total l + s) f) l (past r) (s + room r) (keeps d p) d le;
+          payload = refl;
+          long = keeps-holds d p;
+          aligned = inl refl;
+          swaps = stretch-swaps n c p a m f l r s d al o le;
+          old = inl refl;
+          gone = λ y t u b ne q. ne q;
+        };
         defined = alone (stretch-defined n c p a m f l r s d al o ne le);
         turns = stretch-turns n c p a m f l r s d al o le
             (ready-append w m (leaveSteps (room r) (total l + s) ++ restSteps (total l) (s + room r) (keeps d p)) []
@@ -95,6 +138,18 @@ module _ (n c p a : ℕ) (m : Memory) (f : Lists) (l r : List Block) (s d : ℕ)
       let k = keeps (place a (total (past l))) p in
       record {
         heap = g;
+        resized = record {
+          z = total (past l);
+          k = k;
+          e = place a (total (past l));
+          here = leave-here (skip l (total (past l)) (skip r (total l + s) f)) (past l) (past r) (room l + (s + room r)) k (place a (total (past l))) le;
+          payload = ap (λ (z : ℕ). 2 * z + place a (total (past l))) (sym z);
+          long = keeps-holds (place a (total (past l))) p;
+          aligned = inr (subst (λ (z : ℕ). (2 * z + place a (total (past l))) % a ≡ 0) z (place-aligned a (total (past l)) (align-pos a al)));
+          swaps = down-swaps n c p a m f l r s d al o le;
+          old = inr (_, before-free l r s d nr);
+          gone = down-gone n c p a m f l r s d al o le;
+        };
         defined = alone (down-defined n c p a m f l r s d al o ne gt nr le ∙ ap (λ (z : ℕ). granted (2 * z + place a (total (past l))) (lowered n c p a m f l r s d al o)) z);
         turns = down-turns n c p a m f l r s d al o le nr (_, before-free l r s d nr)
             (ready-append w m (besideSteps (total l) s (room l) (room r)) (restSteps (total (past l)) (room l + (s + room r)) k) (beside-ready n c m f l r s d o (g .blocks) (b .after) (b .before))
@@ -106,6 +161,18 @@ module _ (n c p a : ℕ) (m : Memory) (f : Lists) (l r : List Block) (s d : ℕ)
       let w = elsewhere-turns n c p a m f al l r s d t o k v (b .after) (b .before) j in
       record {
         heap = w .heap;
+        resized = record {
+          z = t .block;
+          k = keeps (place a (t .block)) p;
+          e = place a (t .block);
+          here = w .here;
+          payload = refl;
+          long = keeps-holds (place a (t .block)) p;
+          aligned = inr (place-aligned a (t .block) (align-pos a al));
+          swaps = w .swaps;
+          old = inr (t .grains, v .there);
+          gone = λ y i u b _ q. w .gone y i u b q;
+        };
         defined = other (t .block) (t .grains) (v .there) (subst (λ (i : ℕ). startOf (wanted p a) ≤ i) (sym (v .class)) (v .low)) (subst (λ (i : ℕ). i < 16 * c) (sym (v .class)) (v .small))
             (elsewhere-defined n c p a m f l r s d al o ne (k .after) (k .before))
             (ap (λ (i : ℕ). backAfter (takeAt (record { blocks = l ⟨⟩ used s d ∷ r; lists = f }) p a (found i (t .block))) (2 * total l + d)) (v .class) ∙ w .defined);
@@ -129,6 +196,7 @@ reallocate-armoured n c q p a m xs f t al o g =
       was-used = at-here l r (used s d);
       owner = refl;
       heap = w .heap;
+      resized = w .resized;
       defined = w .defined;
       armoured = turns-armoured n c m (l ⟨⟩ used s d ∷ r) (k .0) (w .heap .blocks) (w .turns);
       payload = w .payload;

@@ -27,7 +27,7 @@ use Rattle.armour.specs.Row.{Row, Free}
 use Rattle.armour.specs.Turns.{Armoured, turns-armoured}
 use Rattle.armour.specs.Known.{headed-known}
 use Rattle.armour.specs.Laid.{Heads, over-is}
-use Rattle.armour.specs.Inserts.{nothingSeen, looked-at, clear-spot, given, region-turns}
+use Rattle.armour.specs.Inserts.{nothingSeen, looked-at, clear-spot, given, region-used, region-stays, region-turns}
 
 -- what gives an answer is not refused
 pub not-both : {A : Type 0} (m : Memory) (s : Script A) {r : ℕ} {a : A} → run m s ≡ no r → Gives m s a → ⊥
@@ -86,6 +86,9 @@ module _ (most behind n c g len : ℕ) (m : Memory) (xs : List Block) (o : Row n
 -- T11 of insert and append: h is what the definition answers
 pub record RegionArmoured (n c : ℕ) (m : Memory) (xs : List Block) (h : Answer) (t : Plan) : Type 0 where
   pub heap : Heap
+  -- the blocks in use are those from before
+  pub stays : (x s d : ℕ) → BlockAt x (used s d) 0 xs → BlockAt x (used s d) 0 (heap .blocks)
+  pub only : (x s d : ℕ) → BlockAt x (used s d) 0 (heap .blocks) → BlockAt x (used s d) 0 xs
   pub defined : h ≡ granted (t .answer) heap
   pub armoured : Armoured n c m xs t (heap .blocks)
 
@@ -96,6 +99,8 @@ module _ (n c g len : ℕ) (m : Memory) (xs : List Block) (f : Lists) (o : Row n
       let v = over-is c len f (k .spot .before) len in
       subst (RegionArmoured n c m xs h) (k .plan) (record {
         heap = record { blocks = given n c m xs o g len f big (k .two) (k .spot); lists = w .lists };
+        stays = region-stays n c m xs o g len f big (k .two) (k .spot);
+        only = region-used n c m xs o g len f big (k .two) (k .spot);
         defined = e ∙ ap (λ (j : ℕ). granted (len - j) (record { blocks = w .left ⟨⟩ gaps (w .over) (k .spot .rest); lists = w .lists })) (sym v);
         armoured = turns-armoured n c m xs (regionDeed c (m Table 0) g len) _ (region-turns n c m xs o g len f big (k .two) (k .spot) (k .heads));
       })

@@ -5,6 +5,7 @@ pub mod Allocate
 pub mod Deallocate
 pub mod Reallocate
 pub mod Regions
+pub mod Calls
 pub mod Checked
 pub mod Planned
 pub mod Costs

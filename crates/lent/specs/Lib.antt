@@ -1,0 +1,1 @@
+-- The lent slices, read as a memory.
