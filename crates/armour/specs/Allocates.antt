@@ -89,6 +89,7 @@ module _ (n c p a : ℕ) (m : Memory) (f : Lists) (l r : List Block) (s : ℕ) (
     records = tags-records (allocateTags (total l) s kept set) (allocate-field (total l) s kept set);
     ready = ready;
     guards = ((s, at-here l r (free s)), tt);
+    users = ((kept, set, leave-here (drop (listOf s) (total l) f) l r s kept set kept-fits), tt);
     used-before = λ x t d b. ⊎-elim
         (λ (q : (x ≡ total l) × (used kept set ≡ used t d)). inl (inl (q .0)))
         (λ (q : BlockAt x (used t d) 0 (l ⟨⟩ free s ∷ r)). inr (t, d, q))

@@ -91,6 +91,7 @@ module _ (n c : ℕ) (m : Memory) (f : Lists) (l r : List Block) (s d : ℕ) (o 
     records = tags-records (deallocateTags (total l) s d (room l) (room r)) (deallocate-field (total l) s d (room l) (room r));
     ready = ready;
     guards = tt;
+    users = tt;
     used-before = λ x t e b. inr (t, e, return-used x t e b);
   }
 

@@ -25,7 +25,7 @@ use Rattle.tags.specs.Within.{allocate-field, deallocate-field, allocate-within
 use Rattle.plans.specs.Allocate.{Taken, takenSteps, takenTags}
 use Rattle.plans.specs.Deallocate.{besideSteps, joinSteps}
 use Rattle.plans.specs.Reallocate.{elsewhereDeed}
-use Rattle.chains.specs.Closed.{Headed, Ready, ready-append}
+use Rattle.chains.specs.Closed.{Headed, ready-append, Ready as StepsReady}
 use Rattle.armour.specs.Row.{Row, Free, Either}
 use Rattle.armour.specs.Turns.{linkBounds, Record, Turns}
 use Rattle.armour.specs.Known.{Beside, whole-block}
@@ -53,32 +53,32 @@ module _ (n c p a : ℕ) (m : Memory) (f : Lists) (al : Align a) where
     abbrev kept : ℕ
     kept = keeps (place a (total k)) p
 
-    abbrev took : Heap
+    abbrev pub took : Heap
     took = handed n c p a m f k q g al o enough
 
     -- the memory when the tags of the take are written
-    abbrev mid : Memory
+    abbrev pub mid : Memory
     mid = apply m (allocateTags (total k) g (keeps (place a (total k)) p) (place a (total k)))
 
     old : Row n c m (l ⟨⟩ used s d ∷ r)
     old = subst (Row n c m) e o
 
-    apart-old : (total k + g < total l) ⊎ (total l + s < total k)
+    pub apart-old : (total k + g < total l) ⊎ (total l + s < total k)
     apart-old = far p a l r s d al (old .order) cramped (total k) g (subst (λ (zs : List Block). BlockAt (total k) (free g) 0 zs) e (at-here k q (free g))) enough
 
-    mid-row : Row n c mid (l' ⟨⟩ used s d ∷ r')
+    pub mid-row : Row n c mid (l' ⟨⟩ used s d ∷ r')
     mid-row = subst (Row n c mid) e' (take-row n c p a m f k q g al o enough)
 
     tag-stays : (y : ℕ) → (y < total k) ⊎ (total k + g ≤ y) → mid Tag y ≡ m Tag y
     tag-stays y h = outside-same m (total k) g y (allocateTags (total k) g kept set) h
         (allocate-within (total k) g kept set (kept-some n c p a m f k q g al o enough) (kept-fits n c p a m f k q g al o enough) (place-inside a (total k) p al))
 
-    rooms : (room l ≡ room l') × (room r ≡ room r')
+    pub rooms : (room l ≡ room l') × (room r ≡ room r')
     rooms = rooms-same m mid l r l' r' s d (old .order) (mid-row .order) (old .tags) (mid-row .tags) same
         (tag-stays (total l + s) (⊎-elim (λ (h : total k + g < total l). inr (omega arith)) (λ (h : total l + s < total k). inl (omega arith)) apart-old))
         (λ some. tag-stays (total l - 1) (⊎-elim (λ (h : total k + g < total l). inr (omega arith)) (λ (h : total l + s < total k). inl (omega arith)) apart-old))
 
-    abbrev back : Heap
+    abbrev pub back : Heap
     back = join (took .lists) l' s r'
 
     abbrev allTags : List Write
@@ -92,7 +92,7 @@ module _ (n c p a : ℕ) (m : Memory) (f : Lists) (al : Align a) where
         (return-row n c mid (took .lists) l' r' s d mid-row))))
 
     -- the rest of what was taken stays free
-    clear-old : (total k + g ≤ total (past l)) ⊎ (total l + (s + room r) ≤ total k)
+    pub clear-old : (total k + g ≤ total (past l)) ⊎ (total l + (s + room r) ≤ total k)
     clear-old = clear p a l r s d al (old .order) cramped (total k) g (subst (λ (zs : List Block). BlockAt (total k) (free g) 0 zs) e (at-here k q (free g))) enough
 
     rest-stays : (kept ≡ g → ⊥) → Free (back .blocks) (total k + kept)
@@ -138,48 +138,69 @@ module _ (n c p a : ℕ) (m : Memory) (f : Lists) (al : Align a) where
     away-gone : (y u v : ℕ) → BlockAt y (used u v) 0 (back .blocks) → y ≡ total l → ⊥
     away-gone y u v b i = return-none n c mid (took .lists) l' r' s d mid-row y u v b (i ∙ same)
 
-    away : listOf g < 16 * c → Free (l ⟨⟩ used s d ∷ r) (m Next (total k)) → Free (l ⟨⟩ used s d ∷ r) (m Prev (total k))
-        → ((kept ≡ g → ⊥) → Headed (Free (l ⟨⟩ used s d ∷ r)) m (listOf (g - kept)))
-        → Beside c m (l ⟨⟩ used s d ∷ r) (total l + s) (room r) → Beside c m (l ⟨⟩ used s d ∷ r) (total l - room l) (room l)
-        → (listOf (room l + (s + room r)) < 16 * c) × Headed (Free (l ⟨⟩ used s d ∷ r)) m (listOf (room l + (s + room r)))
-        → Away n c p a m f (l ⟨⟩ used s d ∷ r) (total l) s d (room l) (room r) (firstAt (total k) g)
+    -- what was seen for it
+    pub record Ready : Type 0 where
+      pub small : listOf g < 16 * c
+      pub next : Free (l ⟨⟩ used s d ∷ r) (m Next (total k))
+      pub prev : Free (l ⟨⟩ used s d ∷ r) (m Prev (total k))
+      pub rest : (keeps (place a (total k)) p ≡ g → ⊥) → Headed (Free (l ⟨⟩ used s d ∷ r)) m (listOf (g - keeps (place a (total k)) p))
+      pub after : Beside c m (l ⟨⟩ used s d ∷ r) (total l + s) (room r)
+      pub before : Beside c m (l ⟨⟩ used s d ∷ r) (total l - room l) (room l)
+      pub joins : (listOf (room l + (s + room r)) < 16 * c) × Headed (Free (l ⟨⟩ used s d ∷ r)) m (listOf (room l + (s + room r)))
+
+    pub away-defined : backAfter (takeAt (record { blocks = l ⟨⟩ used s d ∷ r; lists = f }) p a (found (listOf g) (total k))) (2 * total l + d) ≡ granted (2 * total k + place a (total k)) back
     unfolding backAfter answering
-    away small nx pv rest after before joins =
+    away-defined = ap (λ (zs : List Block). backAfter (takeAt (record { blocks = zs; lists = f }) p a (found (listOf g) (total k))) (2 * total l + d)) (sym e)
+        ∙ ap (λ (w : Answer). backAfter w (2 * total l + d)) (take-defined n c p a m f k q g al o enough)
+        ∙ ap (answering (2 * total k + set)) (ap (λ (zs : List Block). giveBack (record { blocks = zs; lists = took .lists }) (2 * total l + d)) e'
+        ∙ ap (λ (x : ℕ). giveBack (record { blocks = l' ⟨⟩ used s d ∷ r'; lists = took .lists }) (2 * x + d)) same
+        ∙ return-defined n c mid (took .lists) l' r' s d mid-row)
+
+    joined : Free (back .blocks) (total l - room l)
+    joined = subst (Free (back .blocks)) (omega (arith, same, rooms .0)) (joined-free n c mid (took .lists) l' r' s d mid-row)
+
+    pub away-turns : Ready → Turns n c m (l ⟨⟩ used s d ∷ r) (elsewhereDeed p a (total l) s d (room l) (room r) (firstAt (total k) g)) (back .blocks)
+    away-turns v =
         let xs = l ⟨⟩ used s d ∷ r in
         let ys = back .blocks in
         let b' = linkBounds c xs ys in
         record {
-          heap = back;
-          here = away-here;
-          swaps = away-swaps;
-          gone = away-gone;
-          defined = ap (λ (zs : List Block). backAfter (takeAt (record { blocks = zs; lists = f }) p a (found (listOf g) (total k))) (2 * total l + d)) (sym e)
-              ∙ ap (λ (w : Answer). backAfter w (2 * total l + d)) (take-defined n c p a m f k q g al o enough)
-              ∙ ap (answering (2 * total k + set)) (ap (λ (zs : List Block). giveBack (record { blocks = zs; lists = took .lists }) (2 * total l + d)) e'
-              ∙ ap (λ (x : ℕ). giveBack (record { blocks = l' ⟨⟩ used s d ∷ r'; lists = took .lists }) (2 * x + d)) same
-              ∙ return-defined n c mid (took .lists) l' r' s d mid-row);
-          turns = record {
-            row = end-row;
-            records = each-append Record (allocateTags (total k) g kept set) (deallocateTags (total l) s d (room l) (room r))
-                (tags-records (allocateTags (total k) g kept set) (allocate-field (total k) g kept set))
-                (tags-records (deallocateTags (total l) s d (room l) (room r)) (deallocate-field (total l) s d (room l) (room r)));
-            ready = ready-append b' m (besideSteps (total l) s (room l) (room r) ++ takenSteps p a (firstAt (total k) g)) (joinSteps (total l) s (room l) (room r))
-                (ready-append b' m (besideSteps (total l) s (room l) (room r)) (takenSteps p a (firstAt (total k) g)) (beside-ready n c m f l r s d old ys after before)
-                (subst (λ (zs : List Block). Ready (linkBounds c zs ys) m (takenSteps p a (firstAt (total k) g))) e
-                (take-ready n c p a m f k q g al o enough ys small (subst (λ (zs : List Block). Free zs (m Next (total k))) (sym e) nx) (subst (λ (zs : List Block). Free zs (m Prev (total k))) (sym e) pv)
-                (λ ne. subst (λ (zs : List Block). Headed (Free zs) m (listOf (g - kept))) (sym e) (rest ne)) rest-stays)))
-                (join-ready c m xs ys (total l - room l) (room l + (s + room r)) (joins .0) joined (joins .1));
-            guards = ((g, subst (λ (zs : List Block). BlockAt (total k) (free g) 0 zs) e (at-here k q (free g))), tt);
-            used-before = λ x t v b. ⊎-elim
-                (λ (i : (x ≡ total k) × (used kept set ≡ used t v)). inl (inl (i .0)))
-                (λ (i : BlockAt x (used t v) 0 (k ⟨⟩ free g ∷ q)). inr (t, v, subst (λ (zs : List Block). BlockAt x (used t v) 0 zs) e i))
-                (take-swaps n c p a m f k q g al o enough .back x (used t v) tt
-                (subst (λ (zs : List Block). BlockAt x (used t v) 0 zs) (sym e') (return-used n c mid (took .lists) l' r' s d mid-row x t v b)));
-          };
+          row = end-row;
+          records = each-append Record (allocateTags (total k) g kept set) (deallocateTags (total l) s d (room l) (room r))
+              (tags-records (allocateTags (total k) g kept set) (allocate-field (total k) g kept set))
+              (tags-records (deallocateTags (total l) s d (room l) (room r)) (deallocate-field (total l) s d (room l) (room r)));
+          ready = ready-append b' m (besideSteps (total l) s (room l) (room r) ++ takenSteps p a (firstAt (total k) g)) (joinSteps (total l) s (room l) (room r))
+              (ready-append b' m (besideSteps (total l) s (room l) (room r)) (takenSteps p a (firstAt (total k) g)) (beside-ready n c m f l r s d old ys (v .after) (v .before))
+              (subst (λ (zs : List Block). StepsReady (linkBounds c zs ys) m (takenSteps p a (firstAt (total k) g))) e
+              (take-ready n c p a m f k q g al o enough ys (v .small) (subst (λ (zs : List Block). Free zs (m Next (total k))) (sym e) (v .next)) (subst (λ (zs : List Block). Free zs (m Prev (total k))) (sym e) (v .prev))
+              (λ ne. subst (λ (zs : List Block). Headed (Free zs) m (listOf (g - kept))) (sym e) (v .rest ne)) rest-stays)))
+              (join-ready c m xs ys (total l - room l) (room l + (s + room r)) (v .joins .0) joined (v .joins .1));
+          guards = ((g, subst (λ (zs : List Block). BlockAt (total k) (free g) 0 zs) e (at-here k q (free g))), tt);
+          users = ((kept, set, away-here), tt);
+          used-before = λ x t u b. ⊎-elim
+              (λ (i : (x ≡ total k) × (used kept set ≡ used t u)). inl (inl (i .0)))
+              (λ (i : BlockAt x (used t u) 0 (k ⟨⟩ free g ∷ q)). inr (t, u, subst (λ (zs : List Block). BlockAt x (used t u) 0 zs) e i))
+              (take-swaps n c p a m f k q g al o enough .back x (used t u) tt
+              (subst (λ (zs : List Block). BlockAt x (used t u) 0 zs) (sym e') (return-used n c mid (took .lists) l' r' s d mid-row x t u b)));
         }
-      where
-        joined : Free (join (handed n c p a m f k q g al o enough .lists) l' s r' .blocks) (total l - room l)
-        joined = subst (λ (z : ℕ). Free (join (took .lists) l' s r' .blocks) z) (omega (arith, same, rooms .0)) (joined-free n c mid (took .lists) l' r' s d mid-row)
+
+    away : Ready → Away n c p a m f (l ⟨⟩ used s d ∷ r) (total l) s d (room l) (room r) (firstAt (total k) g)
+    away v = record { heap = back; here = away-here; swaps = away-swaps; gone = away-gone; defined = away-defined; turns = away-turns v }
+
+  -- the used block after a take elsewhere
+  pub record Parted (k q : List Block) (g : ℕ) (o : Row n c m (k ⟨⟩ free g ∷ q)) (enough : wanted p a ≤ g) (l : List Block) (s d : ℕ) : Type 0 where
+    pub before : List Block
+    pub behind : List Block
+    pub whole : handed n c p a m f k q g al o enough .blocks ≡ before ⟨⟩ used s d ∷ behind
+    pub place : total l ≡ total before
+
+  pub parted : (k q : List Block) (g : ℕ) (o : Row n c m (k ⟨⟩ free g ∷ q)) (enough : wanted p a ≤ g) (l r : List Block) (s d : ℕ) → k ⟨⟩ free g ∷ q ≡ l ⟨⟩ used s d ∷ r → Parted k q g o enough l s d
+  parted k q g o enough l r s d e =
+      let b : BlockAt (total l) (used s d) 0 (handed n c p a m f k q g al o enough .blocks) = ⊎-elim
+          (λ (i : (total l ≡ total k) × (free g ≡ used s d)). absurd (free-used (sym (i .1)))) (λ (i : BlockAt (total l) (used s d) 0 (handed n c p a m f k q g al o enough .blocks)). i)
+          (take-swaps n c p a m f k q g al o enough .forth (total l) (used s d) tt (subst (λ (zs : List Block). BlockAt (total l) (used s d) 0 zs) (sym e) (at-here l r (used s d)))) in
+      let w = stands-at (total l) (used s d) (handed n c p a m f k q g al o enough .blocks) b in
+      record { before = w .before; behind = w .behind; whole = w .whole; place = w .place }
 
   -- whatever block was found
   pub elsewhere-turns : (l r : List Block) (s d : ℕ) (t : Taken) → Row n c m (l ⟨⟩ used s d ∷ r) → Cramped p a l r s d → Found n c p a m (l ⟨⟩ used s d ∷ r) t
@@ -193,12 +214,15 @@ module _ (n c p a : ℕ) (m : Memory) (f : Lists) (al : Align a) where
       let q = st .behind in
       let g = t .grains in
       let o' : Row n c m (k ⟨⟩ free g ∷ q) = subst (Row n c m) (st .whole) o in
-      let b : BlockAt (total l) (used s d) 0 (handed n c p a m f k q g al o' (v .enough) .blocks) = ⊎-elim
-          (λ (i : (total l ≡ total k) × (free g ≡ used s d)). absurd (free-used (sym (i .1)))) (λ (i : BlockAt (total l) (used s d) 0 (handed n c p a m f k q g al o' (v .enough) .blocks)). i)
-          (take-swaps n c p a m f k q g al o' (v .enough) .forth (total l) (used s d) tt (subst (λ (zs : List Block). BlockAt (total l) (used s d) 0 zs) (st .whole) (at-here l r (used s d)))) in
-      let w = stands-at (total l) (used s d) (handed n c p a m f k q g al o' (v .enough) .blocks) b in
+      let w = parted k q g o' (v .enough) l r s d (sym (st .whole)) in
       let e = taken-is t (listOf g) (total k) g (sym (v .class)) (st .place) refl in
       subst (Away n c p a m f xs (total l) s d (room l) (room r)) e
-      (away k q g o' (v .enough) l r s d (sym (st .whole)) cramped (w .before) (w .behind) (w .whole) (w .place)
-      (subst (λ (j : ℕ). j < 16 * c) (sym (v .class)) (v .small)) (subst (λ (y : ℕ). Free xs (m Next y)) (st .place) (v .next)) (subst (λ (y : ℕ). Free xs (m Prev y)) (st .place) (v .prev))
-      (subst (λ (y : ℕ). (keeps (place a y) p ≡ g → ⊥) → Headed (Free xs) m (listOf (g - keeps (place a y) p))) (st .place) (v .rest)) after before joins)
+      (away k q g o' (v .enough) l r s d (sym (st .whole)) cramped (w .before) (w .behind) (w .whole) (w .place) (record {
+        small = subst (λ (j : ℕ). j < 16 * c) (sym (v .class)) (v .small);
+        next = subst (λ (y : ℕ). Free xs (m Next y)) (st .place) (v .next);
+        prev = subst (λ (y : ℕ). Free xs (m Prev y)) (st .place) (v .prev);
+        rest = subst (λ (y : ℕ). (keeps (place a y) p ≡ g → ⊥) → Headed (Free xs) m (listOf (g - keeps (place a y) p))) (st .place) (v .rest);
+        after = after;
+        before = before;
+        joins = joins;
+      }))

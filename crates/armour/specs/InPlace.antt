@@ -25,7 +25,7 @@ use Rattle.chains.specs.Closed.{Ready}
 use Rattle.plans.specs.Allocate.{restSteps}
 use Rattle.plans.specs.Deallocate.{leaveSteps, besideSteps}
 use Rattle.plans.specs.Reallocate.{stayDeed, stretchDeed, downDeed}
-use Rattle.armour.specs.Row.{Row, Free}
+use Rattle.armour.specs.Row.{Row, Free, Used}
 use Rattle.armour.specs.Listing.{listing, listing-sane}
 use Rattle.armour.specs.Turns.{linkBounds, Turns}
 use Rattle.armour.specs.Known.{whole-block}
@@ -45,7 +45,7 @@ module _ (n c p a : ℕ) (m : Memory) (f : Lists) (l r : List Block) (s d : ℕ)
   -- ---- 1: it keeps its size
 
   pub stay-turns : Turns n c m (l ⟨⟩ used s d ∷ r) (stayDeed (2 * total l + d)) (l ⟨⟩ used s d ∷ r)
-  stay-turns = record { row = o; records = tt; ready = tt; guards = tt; used-before = λ x t e b. inr (t, e, b) }
+  stay-turns = record { row = o; records = tt; ready = tt; guards = tt; users = tt; used-before = λ x t e b. inr (t, e, b) }
 
   pub stay-defined : keeps d p ≡ s → resize c here (2 * total l + d) p a ≡ granted (2 * total l + d) here
   unfolding resizeAt
@@ -97,6 +97,7 @@ module _ (n c p a : ℕ) (m : Memory) (f : Lists) (l r : List Block) (s d : ℕ)
           records = tags-records w (stretch-field (total l) s d (room r) k);
           ready = ready;
           guards = tt;
+          users = tt;
           used-before = λ x t e b. inr (⊎-elim
               (λ (q : (x ≡ total l) × (used k d ≡ used t e)). (s, d, subst (λ (x : ℕ). BlockAt x (used s d) 0 (l ⟨⟩ used s d ∷ r)) (sym (q .0)) (at-here l r (used s d))))
               (λ (q : BlockAt x (used t e) 0 (l ⟨⟩ used s d ∷ r)). (t, e, q))
@@ -190,6 +191,7 @@ module _ (n c p a : ℕ) (m : Memory) (f : Lists) (l r : List Block) (s d : ℕ)
           records = tags-records w (down-field (total l) s d (room l) (room r) lowKept (place a low));
           ready = subst (λ (z : ℕ). Ready (linkBounds c (l ⟨⟩ used s d ∷ r) (lowered .blocks)) m (besideSteps (total l) s (room l) (room r) ++ restSteps z all lowKept)) z ready;
           guards = (subst (Free (l ⟨⟩ used s d ∷ r)) z fr, tt);
+          users = (subst (Used (lowered .blocks)) z (lowKept, place a low, leave-here (skip l low (skip r (total l + s) f)) (past l) (past r) all lowKept (place a low) le), tt);
           used-before = λ x t e b. ⊎-elim
               (λ (q : (x ≡ low) × (used lowKept (place a low) ≡ used t e)). inl (inl (q .0 ∙ z)))
               (λ (q : BlockAt x (used t e) 0 (l ⟨⟩ used s d ∷ r)). inr (t, e, q))

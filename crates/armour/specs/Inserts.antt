@@ -163,5 +163,6 @@ module _ (n c : ℕ) (m : Memory) (xs : List Block) (o : Row n c m xs) (g len : 
       records = each-append Record (layTags c len g len) (entryWrites (m Table 0) g ends) (tags-records (layTags c len g len) (lay-field c len g len)) (entry-records (m Table 0) g ends);
       ready = region-ready h;
       guards = tt;
+      users = tt;
       used-before = λ x s d b. inr (s, d, region-used x s d b);
     }

@@ -22,15 +22,16 @@ use Rattle.plans.specs.Checks.{seeOwner, seeGuard}
 use Rattle.plans.specs.Planned.{plan-checked}
 use Rattle.plans.specs.Allocate.{restSteps}
 use Rattle.plans.specs.Deallocate.{leaveSteps, besideSteps}
-use Rattle.plans.specs.Reallocate.{resizeScript, reallocateScript}
+use Rattle.plans.specs.Reallocate.{stretchDeed, downDeed, resizeScript, reallocateScript}
 use Rattle.armour.specs.Row.{Row, Free}
 use Rattle.armour.specs.Turns.{linkBounds, Turns, Armoured, turns-armoured}
+use Rattle.armour.specs.Known.{Beside}
 use Rattle.armour.specs.Changed.{rest-free, leave-ready, rest-ready}
 use Rattle.armour.specs.Deallocates.{at-owner, beside-ready}
 use Rattle.armour.specs.InPlace.{here, stay-turns, stay-defined, stretched, stretch-defined, stretch-swaps, stretch-turns, lowered, down-defined, down-swaps, down-gone, down-turns, elsewhere-defined}
 use Rattle.armour.specs.Apart.{Cramped}
 use Rattle.armour.specs.Elsewhere.{Away, elsewhere-turns}
-use Rattle.armour.specs.Resizes.{Both, Step, stays, stretches, lowers, moves, resize-known}
+use Rattle.armour.specs.Resizes.{Rests, Both, Step, stays, stretches, lowers, moves, resize-known}
 use Rattle.armour.specs.Carried.{Carried}
 use Rattle.armour.specs.Moved.{before-free, down-carried, elsewhere-carried}
 
@@ -88,6 +89,30 @@ module _ (n c p a : ℕ) (m : Memory) (f : Lists) (l r : List Block) (s d : ℕ)
   abbrev xs : List Block
   xs = l ⟨⟩ used s d ∷ r
 
+  -- 2: the steps are ready
+  pub stretch-turned : keeps d p ≤ s + room r → Beside c m (l ⟨⟩ used s d ∷ r) (total l + s) (room r) → Rests c m (l ⟨⟩ used s d ∷ r) (s + room r) (keeps d p)
+      → Turns n c m (l ⟨⟩ used s d ∷ r) (stretchDeed (2 * total l + d) (total l) s d (room r) (keeps d p)) (leave (skip r (total l + s) f) l (past r) (s + room r) (keeps d p) d .blocks)
+  stretch-turned le b h =
+      let ys = stretched n c p a m f l r s d al o .blocks in
+      let w = linkBounds c xs ys in
+      stretch-turns n c p a m f l r s d al o le
+      (ready-append w m (leaveSteps (room r) (total l + s) ++ restSteps (total l) (s + room r) (keeps d p)) []
+      (ready-append w m (leaveSteps (room r) (total l + s)) (restSteps (total l) (s + room r) (keeps d p)) (leave-ready c m xs ys (total l + s) (room r) b)
+      (rest-ready c m xs ys (total l) (s + room r) (keeps d p) le (h .0) (h .1) (λ e. (_, rest-free (skip r (total l + s) f) l (past r) (s + room r) (keeps d p) d e)))) tt)
+
+  -- 3: so are these
+  pub down-turned : (room l ≡ 0 → ⊥) → keeps (place a (total (past l))) p ≤ room l + (s + room r) → Both n c p a m l r s d
+      → Rests c m (l ⟨⟩ used s d ∷ r) (room l + (s + room r)) (keeps (place a (total (past l))) p)
+      → Turns n c m (l ⟨⟩ used s d ∷ r) (downDeed (total l) s d (room l) (room r) (keeps (place a (total (past l))) p) (place a (total (past l))))
+      (leave (skip l (total (past l)) (skip r (total l + s) f)) (past l) (past r) (room l + (s + room r)) (keeps (place a (total (past l))) p) (place a (total (past l))) .blocks)
+  down-turned nr le b h =
+      let ys = lowered n c p a m f l r s d al o .blocks in
+      let k = keeps (place a (total (past l))) p in
+      down-turns n c p a m f l r s d al o le nr (_, before-free l r s d nr)
+      (ready-append (linkBounds c xs ys) m (besideSteps (total l) s (room l) (room r)) (restSteps (total (past l)) (room l + (s + room r)) k) (beside-ready n c m f l r s d o ys (b .after) (b .before))
+      (rest-ready c m xs ys (total (past l)) (room l + (s + room r)) k le (h .0) (h .1)
+      (λ e. (_, rest-free (skip l (total (past l)) (skip r (total l + s) f)) (past l) (past r) (room l + (s + room r)) k (place a (total (past l))) e))))
+
   pub turned : {t : Deed} → Step n c p a m l r s d t → Turned n c p a m f l r s d t
   turned (stays e) = record {
     heap = here n c p a m f l r s d al o;
@@ -109,7 +134,6 @@ module _ (n c p a : ℕ) (m : Memory) (f : Lists) (l r : List Block) (s d : ℕ)
   }
   turned (stretches ne le b h) =
       let g = stretched n c p a m f l r s d al o in
-      let w = linkBounds c xs (g .blocks) in
       record {
         heap = g;
         resized = record {
@@ -125,15 +149,11 @@ module _ (n c p a : ℕ) (m : Memory) (f : Lists) (l r : List Block) (s d : ℕ)
           gone = λ y t u b ne q. ne q;
         };
         defined = alone (stretch-defined n c p a m f l r s d al o ne le);
-        turns = stretch-turns n c p a m f l r s d al o le
-            (ready-append w m (leaveSteps (room r) (total l + s) ++ restSteps (total l) (s + room r) (keeps d p)) []
-            (ready-append w m (leaveSteps (room r) (total l + s)) (restSteps (total l) (s + room r) (keeps d p)) (leave-ready c m xs (g .blocks) (total l + s) (room r) b)
-            (rest-ready c m xs (g .blocks) (total l) (s + room r) (keeps d p) le (h .0) (h .1) (λ e. (_, rest-free (skip r (total l + s) f) l (past r) (s + room r) (keeps d p) d e)))) tt);
+        turns = stretch-turned le b h;
         payload = λ _. kept (keeps d p) (leave-here (skip r (total l + s) f) l (past r) (s + room r) (keeps d p) d le) refl refl;
       }
   turned (lowers ne gt nr le b h) =
       let g = lowered n c p a m f l r s d al o in
-      let w = linkBounds c xs (g .blocks) in
       let z : total (past l) ≡ total l - room l = omega (arith, total-past l) in
       let k = keeps (place a (total (past l))) p in
       record {
@@ -151,10 +171,7 @@ module _ (n c p a : ℕ) (m : Memory) (f : Lists) (l r : List Block) (s d : ℕ)
           gone = down-gone n c p a m f l r s d al o le;
         };
         defined = alone (down-defined n c p a m f l r s d al o ne gt nr le ∙ ap (λ (z : ℕ). granted (2 * z + place a (total (past l))) (lowered n c p a m f l r s d al o)) z);
-        turns = down-turns n c p a m f l r s d al o le nr (_, before-free l r s d nr)
-            (ready-append w m (besideSteps (total l) s (room l) (room r)) (restSteps (total (past l)) (room l + (s + room r)) k) (beside-ready n c m f l r s d o (g .blocks) (b .after) (b .before))
-            (rest-ready c m xs (g .blocks) (total (past l)) (room l + (s + room r)) k le (h .0) (h .1)
-            (λ e. (_, rest-free (skip l (total (past l)) (skip r (total l + s) f)) (past l) (past r) (room l + (s + room r)) k (place a (total (past l))) e))));
+        turns = down-turned nr le b h;
         payload = λ e. arrives (down-carried n c p a m l r s d al o gt b nr h e);
       }
   turned (moves t ne k b v j) =

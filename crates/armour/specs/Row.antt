@@ -34,9 +34,14 @@ pub record Sound (n c : ℕ) (m : Memory) (h : Heap) : Type 0 where
   pub strung : Strung m (h .lists)
   pub guarded : Guarded m (h .blocks)
 
--- a free block starts at y; before a call or after it
+-- a free block starts at y
 abbrev pub Free : List Block → ℕ → Type 0
 Free xs y = (s : ℕ) × BlockAt y (free s) 0 xs
 
+-- a used block starts at y
+abbrev pub Used : List Block → ℕ → Type 0
+Used xs y = (s : ℕ) × (d : ℕ) × BlockAt y (used s d) 0 xs
+
+-- before a call or after it
 abbrev pub Either : List Block → List Block → ℕ → Type 0
 Either xs ys y = Free xs y ⊎ Free ys y

@@ -17,7 +17,7 @@ use Rattle.chains.specs.Steps.{Step, stepsWrites, steps-append}
 use Rattle.chains.specs.Legal.{Else, steps-rest}
 use Rattle.chains.specs.Closed.{Bounds, LinkWrite, atNext, atPrev, atHead, atMark, Ready, Shown, Fit, Done, steps-done}
 use Rattle.plans.specs.Deeds.{Deed, Plan, guardWrites, earlyWrites, lateWrites, planOf, writes, after}
-use Rattle.armour.specs.Row.{Row, Free, Either}
+use Rattle.armour.specs.Row.{Row, Free, Used, Either}
 
 -- links in blocks that are free before the call or after it; lists there are
 abbrev pub linkBounds : ℕ → List Block → List Block → Bounds
@@ -36,7 +36,9 @@ pub record Turns (n c : ℕ) (m : Memory) (xs : List Block) (t : Deed) (ys : Lis
   pub row : Row n c (apply m (t .records)) ys
   pub records : Each Record (t .records)
   pub ready : Ready (linkBounds c xs ys) m (t .early ++ t .late)
+  -- guards are those of used blocks, in the place of free ones
   pub guards : Every (Free xs) (t .guards)
+  pub users : Every (Used ys) (t .guards)
   -- a used block has its guard from before, or is among those that get one
   pub used-before : (x s d : ℕ) → BlockAt x (used s d) 0 ys → Mem x (t .guards) ⊎ ((u : ℕ) × (e : ℕ) × BlockAt x (used u e) 0 xs)
 

@@ -1,5 +1,13 @@
 -- On a memory that stands for a heap each call does what the definition says. Read Seen, SeenOwner, SeenBeside, SeenTaken.
+pub mod Sounds
 pub mod Seen
 pub mod SeenOwner
 pub mod SeenBeside
 pub mod SeenTaken
+pub mod Listed
+pub mod AllocateMeets
+pub mod DeallocateMeets
+pub mod Commute
+pub mod ElsewhereMeets
+pub mod ReallocateMeets
+pub mod ReallocateWhole
