@@ -9,14 +9,15 @@ use Rattle.class.specs.Class.{listOf}
 use Rattle.definition.specs.Blocks.{Block, free, used, last, gap, total, _⟨⟩_, gaps}
 use Rattle.definition.specs.Lists.{Lists}
 use Rattle.definition.specs.Calls.{Heap, Answer, granted, Laid, lay, insert, append}
-use Rattle.invariants.specs.Order.{out, busy, idle, sideL, Ordered, order-split, BlockAt, at-here}
-use Rattle.invariants.specs.Gaps.{Spot, spot-inside}
+use Rattle.invariants.specs.Order.{out, busy, idle, sideL, Ordered, order-split, BlockAt, at-here, one-block}
+use Rattle.invariants.specs.Gaps.{Spot, spot-inside, gap-last}
 use Rattle.invariants.specs.Regions.{laidOut, gap-out, insert-spot, append-spot}
 use Rattle.script.specs.Memory.{Memory, Table}
 use Rattle.script.specs.Script.{Script, done, stop, ok, no, run, unlessLe, mustEq, mustLe, Gives, inv-bind, inv-get, inv-le, inv-eq}
+use Rattle.sound.specs.Sound.{InTable}
 use Rattle.sound.specs.Inverted.{inv-if-eq, inv-if-le, inv-stop}
 use Rattle.sound.specs.RegionPlan.{Looked, seeRegions}
-use Rattle.sound.specs.RegionTable.{endOf, Overlap, Passed}
+use Rattle.sound.specs.RegionTable.{firstOf, endOf, Overlap, Passed}
 use Rattle.chains.specs.Closed.{Headed}
 use Rattle.plans.specs.Deeds.{Plan, planOf}
 use Rattle.plans.specs.Checks.{seeHead}
@@ -131,6 +132,20 @@ module _ (n c g len : ℕ) (m : Memory) (xs : List Block) (f : Lists) (o : Row n
         go : (k : ℕ) → 1 ≤ k → Ordered (sideL (s .before)) (gaps k (s .rest)) → sideL (s .before) ≡ out
         go zero q o = absurd (omega arith)
         go (suc k) q o = gap-out (sideL (s .before)) (o .0)
+
+    -- after a sentinel a region ended
+    pub region-ended : (l : List Block) → s .before ≡ last ∷ l → p .looked .meets ≡ 1
+    region-ended l e =
+        let x : g ≡ total l + 1 = sym (s .place) ∙ ap total e in
+        let w : xs ≡ last ∷ l ⟨⟩ gaps len (s .rest) = s .whole ∙ ap (λ (t : List Block). t ⟨⟩ gaps len (s .rest)) e in
+        let a : BlockAt (total l) last 0 xs = rw w (at-here l (gaps len (s .rest)) last) in
+        ⊎-elim
+        (λ (k : BlockAt (total l) gap 0 xs). absurd (gap-last (one-block (total l) last gap xs (o .order) a k)))
+        (λ (k : InTable m (total l)). ⊎-elim
+        (λ (q : endOf m (k .0) ≤ g). p .ends (k .0) (omega arith) (omega (arith, k .1)) (omega (arith, k .3)))
+        (λ (q : g + len ≤ firstOf m (k .0)). absurd (omega (arith, k .2)))
+        (p .clear (k .0) (omega arith) (omega (arith, k .1))))
+        (o .given .either (total l) (omega (arith, spot-inside g len xs s)))
 
     -- so where one ended, a sentinel stands
     pub sentinel-before : 1 ≤ p .looked .meets → (l : List Block) × (s .before ≡ last ∷ l)

@@ -11,3 +11,4 @@ pub mod Commute
 pub mod ElsewhereMeets
 pub mod ReallocateMeets
 pub mod ReallocateWhole
+pub mod RegionMeets
