@@ -12,3 +12,6 @@ pub mod ElsewhereMeets
 pub mod ReallocateMeets
 pub mod ReallocateWhole
 pub mod RegionMeets
+pub mod Calls
+pub mod Tables
+pub mod Runs
