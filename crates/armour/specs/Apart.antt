@@ -47,17 +47,18 @@ rooms-same m u l r k q s d ol ok tl tk e ea eb =
     let i = order-split l (used s d ∷ r) ol in
     let j = order-split k (used s d ∷ q) ok in
     let v = tagged-split (m Tag) l (used s d ∷ r) tl in
-    let w = tagged-split (u Tag) k (used s d ∷ q) tk in
-    (⊎-elim
-    (λ (p : 1 ≤ total l).
-    let b = before-tag (u Tag) k (j .0) (w .0) (omega arith) in
-    let g : u Tag (total k - 1) ≡ m Tag (total l - 1) = ap (λ (x : ℕ). u Tag (x - 1)) (sym e) ∙ eb p in
-    room-same (before-tag (m Tag) l (i .0) (v .0) p) (subst (λ (x : ℕ). RoomIs (x % START) (x / flags) FREE (room k)) g b))
-    (λ (p : total l < 1). no-room l (i .0) (omega arith) ∙ sym (no-room k (j .0) (omega arith)))
-    (le? 1 (total l)),
-    (let b = behind-tag (u Tag) (total k + s) q (j .1 .2) (w .1 .1) in
-    let g : u Tag (total k + s) ≡ m Tag (total l + s) = ap (λ (x : ℕ). u Tag (x + s)) (sym e) ∙ ea in
-    room-same (behind-tag (m Tag) (total l + s) r (i .1 .2) (v .1 .1)) (subst (λ (x : ℕ). RoomIs (x % flags) (x / flags) (START + FREE) (room q)) g b)))
+    let w = tagged-split (u Tag) k (used s d ∷ q) tk in (
+      ⊎-elim
+          (λ (p : 1 ≤ total l).
+          let b = before-tag (u Tag) k (j .0) (w .0) (omega arith) in
+          let g : u Tag (total k - 1) ≡ m Tag (total l - 1) = ap (λ (x : ℕ). u Tag (x - 1)) (sym e) ∙ eb p in
+          room-same (before-tag (m Tag) l (i .0) (v .0) p) (subst (λ (x : ℕ). RoomIs (x % START) (x / flags) FREE (room k)) g b))
+          (λ (p : total l < 1). no-room l (i .0) (omega arith) ∙ sym (no-room k (j .0) (omega arith)))
+          (le? 1 (total l)),
+      (let b = behind-tag (u Tag) (total k + s) q (j .1 .2) (w .1 .1) in
+          let g : u Tag (total k + s) ≡ m Tag (total l + s) = ap (λ (x : ℕ). u Tag (x + s)) (sym e) ∙ ea in
+          room-same (behind-tag (m Tag) (total l + s) r (i .1 .2) (v .1 .1)) (subst (λ (x : ℕ). RoomIs (x % flags) (x / flags) (START + FREE) (room q)) g b)),
+    )
 
 -- ---- a free block beside a used one is what its neighbour is
 

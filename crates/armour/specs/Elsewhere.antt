@@ -104,9 +104,9 @@ module _ (n c p a : ℕ) (m : Memory) (f : Lists) (al : Align a) where
         let t : mid Tag y ≡ freeTag (g - kept) = first-free (mid Tag) (took .blocks) (row .order) (row .tags) y (g - kept) b in
         let w = whole-block n c m l r s d old in
         let v : apply m allTags Tag y ≡ mid Tag y = ap (λ (u : Memory). u Tag y) (apply-append m (allocateTags (total k) g kept set) (deallocateTags (total l) s d (room l) (room r)))
-            ∙ outside-same mid (total l - room l) (room l + (s + room r)) y (deallocateTags (total l) s d (room l) (room r))
-            (⊎-elim (λ (h : total k + g ≤ total (past l)). inl (omega (arith, ne, total-past l))) (λ (h : total l + (s + room r) ≤ total k). inr (omega (arith, total-past l))) clear-old)
-            (deallocate-within (total l) s d (room l) (room r) (w .0) (w .1) (omega (arith, total-past l))) in
+        ∙ outside-same mid (total l - room l) (room l + (s + room r)) y (deallocateTags (total l) s d (room l) (room r))
+        (⊎-elim (λ (h : total k + g ≤ total (past l)). inl (omega (arith, ne, total-past l))) (λ (h : total l + (s + room r) ≤ total k). inr (omega (arith, total-past l))) clear-old)
+        (deallocate-within (total l) s d (room l) (room r) (w .0) (w .1) (omega (arith, total-past l))) in
         (_, free-here (apply m allTags Tag) (back .blocks) (end-row .order) (end-row .tags) y (omega (arith, at-end y (free (g - kept)) 0 (took .blocks) b, row .whole, end-row .whole, ne)) (omega (arith, t, v)))
 
     away-swaps : Swaps (l ⟨⟩ used s d ∷ r) (back .blocks) (total l) (used s d) (total k) (used (keeps (place a (total k)) p) (place a (total k)))
@@ -197,8 +197,8 @@ module _ (n c p a : ℕ) (m : Memory) (f : Lists) (al : Align a) where
   pub parted : (k q : List Block) (g : ℕ) (o : Row n c m (k ⟨⟩ free g ∷ q)) (enough : wanted p a ≤ g) (l r : List Block) (s d : ℕ) → k ⟨⟩ free g ∷ q ≡ l ⟨⟩ used s d ∷ r → Parted k q g o enough l s d
   parted k q g o enough l r s d e =
       let b : BlockAt (total l) (used s d) 0 (handed n c p a m f k q g al o enough .blocks) = ⊎-elim
-          (λ (i : (total l ≡ total k) × (free g ≡ used s d)). absurd (free-used (sym (i .1)))) (λ (i : BlockAt (total l) (used s d) 0 (handed n c p a m f k q g al o enough .blocks)). i)
-          (take-swaps n c p a m f k q g al o enough .forth (total l) (used s d) tt (subst (λ (zs : List Block). BlockAt (total l) (used s d) 0 zs) (sym e) (at-here l r (used s d)))) in
+      (λ (i : (total l ≡ total k) × (free g ≡ used s d)). absurd (free-used (sym (i .1)))) (λ (i : BlockAt (total l) (used s d) 0 (handed n c p a m f k q g al o enough .blocks)). i)
+      (take-swaps n c p a m f k q g al o enough .forth (total l) (used s d) tt (subst (λ (zs : List Block). BlockAt (total l) (used s d) 0 zs) (sym e) (at-here l r (used s d)))) in
       let w = stands-at (total l) (used s d) (handed n c p a m f k q g al o enough .blocks) b in
       record { before = w .before; behind = w .behind; whole = w .whole; place = w .place }
 

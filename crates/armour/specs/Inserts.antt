@@ -122,8 +122,16 @@ module _ (n c : ℕ) (m : Memory) (xs : List Block) (o : Row n c m xs) (g len : 
         subst (λ (u : Memory). Row n c u given) (sym (apply-append m w (entryWrites (m Table 0) g ends))) (record {
           order = given-sane .0;
           short = given-sane .1;
-          whole = omega (arith, lay-total c big len f (p .before) len, ap total (p .whole), total-zip (p .before) (gaps len (p .rest)), total-gaps len (p .rest),
-              total-zip (laying .left) (gaps (laying .over) (p .rest)), total-gaps (laying .over) (p .rest), o .whole);
+          whole = omega (
+            arith,
+            lay-total c big len f (p .before) len,
+            ap total (p .whole),
+            total-zip (p .before) (gaps len (p .rest)),
+            total-gaps len (p .rest),
+            total-zip (laying .left) (gaps (laying .over) (p .rest)),
+            total-gaps (laying .over) (p .rest),
+            o .whole,
+          );
           tags = subst (λ (t : ℕ → ℕ). Tagged t 0 given) (sym (apply-untouched q (entryWrites (m Table 0) g ends) Tag (omega arith, (omega arith, (omega arith, tt))))) tags;
           given = given-more m (entered m q g ends t) xs given g ends (o .given) (longer m q g ends t)
               (subst (λ (j : ℕ). Filled xs given g (g + (len - j))) (sym e) (filled c big f g len xs p two (o .order)));

@@ -67,7 +67,7 @@ lay-tagged c (suc i) f m l r x n big e h = le-pair (λ (w : List Write) (v : Lai
     let w = pieceTags x k in
     let v = layTags c i (x + k) (n - k) in
     let p : Tagged (apply m (pieceTags (total l) k) Tag) 0 (l ⟨⟩ free (k - 1) ∷ last ∷ gaps (n - k) r) = piece-tagged m l (gaps (n - k) r) k (omega (arith, two-grains c big))
-        (subst (λ (zs : List Block). Tagged (m Tag) 0 (l ⟨⟩ zs)) (ap (λ (j : ℕ). gaps j r) g ∙ gaps-add k (n - k) r) h) in
+    (subst (λ (zs : List Block). Tagged (m Tag) 0 (l ⟨⟩ zs)) (ap (λ (j : ℕ). gaps j r) g ∙ gaps-add k (n - k) r) h) in
     subst (λ (u : Memory). Tagged (u Tag) 0 (lay c i (push (listOf (k - 1)) (total l) f) (last ∷ free (k - 1) ∷ l) (n - k) .left ⟨⟩ gaps (lay c i (push (listOf (k - 1)) (total l) f) (last ∷ free (k - 1) ∷ l) (n - k) .over) r))
     (sym (apply-append m w v))
     (lay-tagged c i (push (listOf (k - 1)) (total l) f) (apply m w) (last ∷ free (k - 1) ∷ l) r (x + k) (n - k) big (omega (arith, two-grains c big))
@@ -91,7 +91,7 @@ lay-ready c (suc i) f m xs ys l r x n big e h new = ⊎-elim
     let b : n ≤ 1 → ⊥ = (λ q. omega arith) in
     let g = push (listOf (k - 1)) (total l) f in
     let old : (y s : ℕ) → LeftAt y (free s) (lay c i g (last ∷ free (k - 1) ∷ l) (n - k) .left) → Free ys y = λ y s q.
-        new y s (subst (λ (w : Laid). LeftAt y (free s) (w .left)) (sym (le-no n 1 (record { left = l; over = n; lists = f }) (lay c i g (last ∷ free (k - 1) ∷ l) (n - k)) b)) q) in
+    new y s (subst (λ (w : Laid). LeftAt y (free s) (w .left)) (sym (le-no n 1 (record { left = l; over = n; lists = f }) (lay c i g (last ∷ free (k - 1) ∷ l) (n - k)) b)) q) in
     let two = two-grains c big in
     rw (le-no n 1 _ _ b) (
       (

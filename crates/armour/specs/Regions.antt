@@ -70,8 +70,8 @@ module _ (most behind n c g len : ℕ) (m : Memory) (xs : List Block) (o : Row n
       let two = inv-le m 4 2 len (i1 .1) in
       let near = inv-le m 4 (g + len) n (i2 .1) in
       let p : Passed n g len m (m Table 0) 0 nothingSeen = ⊎-elim
-          (λ k. absurd (not-both m (seeRegions n g len (m Table 0) 0 nothingSeen) (k .0) (i4 .1)))
-          (λ (k : Passed n g len m (m Table 0) 0 nothingSeen). k) (looked-at n c m xs o g len (omega arith)) in
+      (λ k. absurd (not-both m (seeRegions n g len (m Table 0) 0 nothingSeen) (k .0) (i4 .1)))
+      (λ (k : Passed n g len m (m Table 0) 0 nothingSeen). k) (looked-at n c m xs o g len (omega arith)) in
       let e : i4 .0 ≡ p .looked = gives-one m (seeRegions n g len (m Table 0) 0 nothingSeen) (i4 .1) (p .gives) in
       record {
         room = ⊎-elim (λ k. absurd (inv-stop m 6 (k .1))) (λ k. omega (arith, k .0, inv-le m 5 (m Table 0) most (i3 .1))) (inv-if-eq m (m Table 0) most _ _ (i0 .1));

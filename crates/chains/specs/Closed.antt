@@ -74,7 +74,7 @@ module _ (o : Bounds) (fit : Fit o) where
       leave-writes : o .L k → Each (LinkWrite o) (stepWrites m (leave k y))
       leave-writes l = (atNext p new-next, (atPrev n new-prev, (atHead l left-head, (atMark l left-mark, tt))))
 
-      leave-shown : Shown o (apply m (stepWrites m (leave k y)))
+      pub leave-shown : Shown o (apply m (stepWrites m (leave k y)))
       leave-shown = record {
         heads = upd-each (λ _. o .H) (m Head) k _ left-head (λ j _. shown .heads j);
         marks = upd-each (λ _. o .B) (m Mark) k _ left-mark (λ j _. shown .marks j);
@@ -96,7 +96,7 @@ module _ (o : Bounds) (fit : Fit o) where
           (λ (q : o .F (m Head j)). inr (subst (o .F) (sym (upd-other (m Head) k _ j a)) q)) h)
           (same? j k)
 
-      leave-ready : (l : List Step) → Ready o m l → Ready o (apply m (stepWrites m (leave k y))) l
+      pub leave-ready : (l : List Step) → Ready o m l → Ready o (apply m (stepWrites m (leave k y))) l
       leave-ready [] r = tt
       leave-ready (leave j u ∷ l) r = ((r .0 .0, next-still u (r .0 .1), prev-still u (r .0 .2)), leave-ready l (r .1))
       leave-ready (enter j u ∷ l) r = ((r .0 .0, r .0 .1, head-still j (r .0 .2)), leave-ready l (r .1))
@@ -108,7 +108,7 @@ module _ (o : Bounds) (fit : Fit o) where
       enter-writes : o .L k → Each (LinkWrite o) (stepWrites m (enter k y))
       enter-writes l = (atPrev before i, (atPrev i i, (atNext i before, (atHead l (fit .head y i), (atMark l (fit .set), tt)))))
 
-      enter-shown : Shown o (apply m (stepWrites m (enter k y)))
+      pub enter-shown : Shown o (apply m (stepWrites m (enter k y)))
       enter-shown = record {
         heads = upd-each (λ _. o .H) (m Head) k _ (fit .head y i) (λ j _. shown .heads j);
         marks = upd-each (λ _. o .B) (m Mark) k _ (fit .set) (λ j _. shown .marks j);
@@ -122,7 +122,7 @@ module _ (o : Bounds) (fit : Fit o) where
           (λ (z : o .F (m Head j)). inr (subst (o .F) (sym (upd-other (m Head) k _ j a)) z)) q)
           (same? j k)
 
-      enter-ready : (l : List Step) → Ready o m l → Ready o (apply m (stepWrites m (enter k y))) l
+      pub enter-ready : (l : List Step) → Ready o m l → Ready o (apply m (stepWrites m (enter k y))) l
       enter-ready [] r = tt
       enter-ready (leave j u ∷ l) r = (
         (

@@ -156,9 +156,9 @@ module _ (n c p a : ℕ) (m : Memory) (f : Lists) (al : Align a) (k q : List Blo
       let b = drop (listOf g) (total k) f in
       let ob = apiece-drop f (o .exact .apiece) (listOf g) (total k) in
       let z : drop (listOf g) (total k) (stepsLists f sideSteps) ≡ stepsLists (stepsLists b a1) a2 =
-          ap (drop (listOf g) (total k)) (lists-append f a1 a2)
-          ∙ skip-through (stepsLists f a1) (room l) (total l - room l) (leave (listOf g) (total k) ∷ []) (not-before (total k) (omega arith) (omega (arith, some, fits)), tt)
-          ∙ ap (λ (v : Lists). stepsLists v a2) (skip-through f (room r) (total l + s) (leave (listOf g) (total k) ∷ []) (not-after (total k) (omega arith) (omega (arith, some, fits)), tt)) in
+      ap (drop (listOf g) (total k)) (lists-append f a1 a2)
+      ∙ skip-through (stepsLists f a1) (room l) (total l - room l) (leave (listOf g) (total k) ∷ []) (not-before (total k) (omega arith) (omega (arith, some, fits)), tt)
+      ∙ ap (λ (v : Lists). stepsLists v a2) (skip-through f (room r) (total l + s) (leave (listOf g) (total k) ∷ []) (not-after (total k) (omega arith) (omega (arith, some, fits)), tt)) in
       rest-none n c p a m f k q g al o enough found-it ne i
       (skip-fewer b ob (room r) (total l + s) i (total k + kept)
       (skip-fewer (stepsLists b a1) (skip-apiece b ob (room r) (total l + s)) (room l) (total l - room l) i (total k + kept) (subst (λ (v : Lists). Mem (total k + kept) (v i)) z h)))

@@ -47,12 +47,14 @@ unfolding laySteps
 lay-legal c zero f x n big o h = tt
 lay-legal c (suc i) f x n big o h = le-case (Legal f) n 1 _ _ (λ _. tt)
     (λ a. let k = min n (2 ^ c) in
-    let new = h x (omega arith) (omega arith) in
-    (new, lay-legal c i (push (listOf (k - 1)) x f) (x + k) (n - k) big (apiece-push f o (listOf (k - 1)) x new)
-    (λ u lo hi j m. ⊎-elim
-    (λ (q : (u ≡ x) × (j ≡ listOf (k - 1))). omega (arith, q .0, two-grains c big))
-    (λ (q : Mem u (f j)). h u (omega arith) (omega (arith, two-grains c big)) j q)
-    (mem-push f o (listOf (k - 1)) x j u m))))
+    let new = h x (omega arith) (omega arith) in (
+      new,
+      lay-legal c i (push (listOf (k - 1)) x f) (x + k) (n - k) big (apiece-push f o (listOf (k - 1)) x new)
+          (λ u lo hi j m. ⊎-elim
+          (λ (q : (u ≡ x) × (j ≡ listOf (k - 1))). omega (arith, q .0, two-grains c big))
+          (λ (q : Mem u (f j)). h u (omega arith) (omega (arith, two-grains c big)) j q)
+          (mem-push f o (listOf (k - 1)) x j u m)),
+    ))
 
 -- ---- the script
 

@@ -123,16 +123,20 @@ meets-agrees n c most m k s (granted v g) o room h = subst (λ (r : Result Plan)
 plain : (n c most : ℕ) (m : Memory) (k : Call) (s : Model) → (asks k ≡ 1 → ⊥) → Agrees n c most m (run m (scriptOf n c most k)) (said (answerOf c k (s .heap))) (left s (asks k) (answerOf c k (s .heap)))
     → Agrees n c most m (run m (scriptOf n c most k)) (answers c most k s) (next c most k s)
 plain n c most m k s ne w =
-    rw (eq-no (asks k) 1 (ifEq (s .regions) most (not 6) (said (answerOf c k (s .heap)))) (said (answerOf c k (s .heap))) ne,
-    eq-no (asks k) 1 (ifEq (s .regions) most s (left s (asks k) (answerOf c k (s .heap)))) (left s (asks k) (answerOf c k (s .heap))) ne) w
+    rw (
+      eq-no (asks k) 1 (ifEq (s .regions) most (not 6) (said (answerOf c k (s .heap)))) (said (answerOf c k (s .heap))) ne,
+      eq-no (asks k) 1 (ifEq (s .regions) most s (left s (asks k) (answerOf c k (s .heap)))) (left s (asks k) (answerOf c k (s .heap))) ne,
+    ) w
 
 region : (n c most : ℕ) (m : Memory) (k : Call) (s : Model) → asks k ≡ 1
     → (s .regions ≡ most → Agrees n c most m (run m (scriptOf n c most k)) (not 6) s)
     → ((s .regions ≡ most → ⊥) → Agrees n c most m (run m (scriptOf n c most k)) (said (answerOf c k (s .heap))) (left s (asks k) (answerOf c k (s .heap))))
     → Agrees n c most m (run m (scriptOf n c most k)) (answers c most k s) (next c most k s)
 region n c most m k s e full some =
-    rw (eq-yes (asks k) 1 (ifEq (s .regions) most (not 6) (said (answerOf c k (s .heap)))) (said (answerOf c k (s .heap))) e,
-    eq-yes (asks k) 1 (ifEq (s .regions) most s (left s (asks k) (answerOf c k (s .heap)))) (left s (asks k) (answerOf c k (s .heap))) e) (⊎-elim
+    rw (
+      eq-yes (asks k) 1 (ifEq (s .regions) most (not 6) (said (answerOf c k (s .heap)))) (said (answerOf c k (s .heap))) e,
+      eq-yes (asks k) 1 (ifEq (s .regions) most s (left s (asks k) (answerOf c k (s .heap)))) (left s (asks k) (answerOf c k (s .heap))) e,
+    ) (⊎-elim
     (λ (q : s .regions ≡ most). rw (eq-yes (s .regions) most (not 6) (said (answerOf c k (s .heap))) q, eq-yes (s .regions) most s (left s (asks k) (answerOf c k (s .heap))) q) (full q))
     (λ (q : s .regions ≡ most → ⊥). rw (eq-no (s .regions) most (not 6) (said (answerOf c k (s .heap))) q, eq-no (s .regions) most s (left s (asks k) (answerOf c k (s .heap))) q) (some q))
     (same? (s .regions) most))

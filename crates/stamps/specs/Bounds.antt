@@ -1,11 +1,12 @@
--- What the writers of tags require: the places are in the slice, the counts fit in a tag, and no difference falls below 0.
+-- What the functions that write tags require: the places are in the slice, the counts fit in a tag, and no difference is
+-- below 0.
 use Prim.Native.Nat.{ℕ, _+_, _*_, _≤_, _<_}
 use mathlib.Core.List.{List}
 use lib.ListN.{length}
 use Rattle.machine.specs.Machine.{piece}
 
--- s grains at x: some, all with a tag, and a count for them
-pub record Grains (t : List ℕ) (x s : ℕ) : Type 0 where
+-- s grains at x become a free block
+pub record CanLayFree (t : List ℕ) (x s : ℕ) : Type 0 where
   pub some : 1 ≤ s
   pub inside : x + s ≤ length t
   pub counted : s < piece
@@ -25,8 +26,8 @@ pub record CanAllocate (t : List ℕ) (x s k d : ℕ) : Type 0 where
   pub fits : k ≤ s
   pub within : d ≤ 2 * k
 
--- a used block of s grains at x, with its payload at d, is joined with a free grains before it and b after it
-pub record CanJoin (t : List ℕ) (x s d a b : ℕ) : Type 0 where
+-- a used block of s grains at x, with its payload at d, becomes free, with a free grains before it and b after it
+pub record CanDeallocate (t : List ℕ) (x s d a b : ℕ) : Type 0 where
   pub some : 1 ≤ s
   pub before : a ≤ x
   pub inside : x + (s + b) ≤ length t

@@ -1,6 +1,6 @@
 -- What the writes of a list leave of the tags (`tagStores`). Writes that all go to the tags leave the other three slices as
 -- they were (`stores-tags`), so that this is all that becomes of the lent slices.
-use Prim.Native.Nat.{ℕ, _+_, _-_, _/_, _≤_, _<_}
+use Prim.Native.Nat.{ℕ, zero, suc, _≤_, _<_}
 use native.Mathlib.Omega.{arith}
 use mathlib.Core.Path.{_≡_, refl, ap, sym, _∙_, subst}
 use mathlib.Core.List.{List, [], _∷_, _++_}
@@ -43,35 +43,35 @@ tag-stores-length t (w ∷ l) = tag-stores-length (tagStore t w) l ∙ one (w .f
     one zero = enter-length t (w .place) (tagWord (w .value))
     one (suc f) = refl
 
--- ---- steps of a function: no write, one, one more list of them
+-- ---- what a function did so far: no write, one, and then some more
 
-pub nothing : {t : List ℕ} → t ≡ tagStores t []
+pub nothing : (t : List ℕ) → t ≡ tagStores t []
 unfolding tagStores
-nothing = refl
+nothing t = refl
 
-pub stored : {t u : List ℕ} {x r v : ℕ} → r ≡ tagWord v → u ≡ enter t x r → u ≡ tagStores t ((Tag at x ≔ v) ∷ [])
+pub stored : (t u : List ℕ) (x r v : ℕ) → r ≡ tagWord v → u ≡ enter t x r → u ≡ tagStores t ((Tag at x ≔ v) ∷ [])
 unfolding tagStores
-stored {t = t} {x = x} e h = h ∙ ap (enter t x) e
+stored t u x r v e h = h ∙ ap (enter t x) e
 
 pub tag-stores-append : (t : List ℕ) (p q : List Write) → tagStores t (p ++ q) ≡ tagStores (tagStores t p) q
 unfolding tagStores
 tag-stores-append t [] q = refl
 tag-stores-append t (w ∷ p) q = tag-stores-append (tagStore t w) p q
 
-pub after : {t u v : List ℕ} (p q : List Write) → u ≡ tagStores t p → v ≡ tagStores u q → v ≡ tagStores t (p ++ q)
-after {t = t} p q e f = f ∙ ap (λ (z : List ℕ). tagStores z q) e ∙ sym (tag-stores-append t p q)
+pub then : (t u v : List ℕ) (p q : List Write) → u ≡ tagStores t p → v ≡ tagStores u q → v ≡ tagStores t (p ++ q)
+then t u v p q e f = f ∙ ap (λ (z : List ℕ). tagStores z q) e ∙ sym (tag-stores-append t p q)
 
 -- ---- a list of writes that depends on a test
 
-module _ {t u : List ℕ} {p q : List Write} where
-  pub where-same : {a b : ℕ} → a ≡ b → u ≡ tagStores t p → u ≡ tagStores t (ifEq a b p q)
-  where-same {a = a} {b = b} e h = h ∙ ap (tagStores t) (sym (eq-yes a b p q e))
+module _ (t u : List ℕ) (a b : ℕ) (p q : List Write) where
+  pub where-same : a ≡ b → u ≡ tagStores t p → u ≡ tagStores t (ifEq a b p q)
+  where-same e h = h ∙ ap (tagStores t) (sym (eq-yes a b p q e))
 
-  pub where-other : {a b : ℕ} → (a ≡ b → ⊥) → u ≡ tagStores t q → u ≡ tagStores t (ifEq a b p q)
-  where-other {a = a} {b = b} n h = h ∙ ap (tagStores t) (sym (eq-no a b p q n))
+  pub where-other : (a ≡ b → ⊥) → u ≡ tagStores t q → u ≡ tagStores t (ifEq a b p q)
+  where-other n h = h ∙ ap (tagStores t) (sym (eq-no a b p q n))
 
-  pub where-most : {a b : ℕ} → a ≤ b → u ≡ tagStores t p → u ≡ tagStores t (ifLe a b p q)
-  where-most {a = a} {b = b} e h = h ∙ ap (tagStores t) (sym (le-yes a b p q e))
+  pub where-least : a ≤ b → u ≡ tagStores t p → u ≡ tagStores t (ifLe a b p q)
+  where-least e h = h ∙ ap (tagStores t) (sym (le-yes a b p q e))
 
-  pub where-more : {a b : ℕ} → (a ≤ b → ⊥) → u ≡ tagStores t q → u ≡ tagStores t (ifLe a b p q)
-  where-more {a = a} {b = b} n h = h ∙ ap (tagStores t) (sym (le-no a b p q n))
+  pub where-less : b < a → u ≡ tagStores t q → u ≡ tagStores t (ifLe a b p q)
+  where-less n h = h ∙ ap (tagStores t) (sym (le-no a b p q (λ e. omega arith)))

@@ -2,15 +2,17 @@
 // the plan was. A block of s grains stands at grain x; k grains become a used block, whose payload stands d half grains after
 // its start; a is the free room before the block, and b the free room after it.
 ghost use mathlib.Core.Path.{_≡_};
-ghost use mathlib.Core.List.{[], _∷_, _++_};
-ghost use Prim.Native.Nat.{_+_, _*_, _/_, _≤_, _<_};
+ghost use mathlib.Core.List.{[], _∷_};
+ghost use Prim.Native.Nat.{_+_, _/_, _≤_, _<_};
 ghost use lib.ListN.{length};
 ghost use Rattle.script.specs.Memory.{_at_≔_};
 ghost use Rattle.machine.specs.Machine.{piece};
 ghost use Rattle.tags.specs.Tag.{Tag};
 ghost use Rattle.tags.specs.Writes.{layPadTags, clearPadTags, layFreeTags, splitTags, clearAfterTags, clearBeforeTags, clearRoomTags, allocateTags, deallocateTags, stretchTags, downTags, pieceTags};
 ghost use Rattle.stamps.specs.Stores.{tagStores};
-ghost use Rattle.stamps.specs.Bounds.{Grains, CanSplit, CanAllocate, CanJoin, CanStretch, CanDown, CanLayPiece};
+ghost use Rattle.stamps.specs.Zeros.{Zeros};
+ghost use Rattle.stamps.specs.Initial.{Initial};
+ghost use Rattle.stamps.specs.Bounds.{CanLayFree, CanSplit, CanAllocate, CanDeallocate, CanStretch, CanDown, CanLayPiece};
 
 // ---- the changes
 
@@ -26,7 +28,7 @@ pub fn allocate_tags(tags: &mut [u16], x: usize, s: usize, k: usize, d: usize)
 
 // A used block becomes free, and is joined with the free room beside it.
 pub fn deallocate_tags(tags: &mut [u16], x: usize, s: usize, d: usize, a: usize, b: usize)
-    requires { ⌜ CanJoin (now tags) x s d a b ⌝ }
+    requires { ⌜ CanDeallocate (now tags) x s d a b ⌝ }
     ensures { λ r. ⌜ now (tags .exit) ≡ tagStores (now (tags .entry)) (deallocateTags x s d a b) ⌝ }
 {
     clear_pad(tags, x, d);
@@ -45,7 +47,16 @@ pub fn stretch_tags(tags: &mut [u16], x: usize, s: usize, d: usize, b: usize, k:
 }
 
 // A used block, with its payload at e, moves down into the free room before it.
-pub fn down_tags(tags: &mut [u16], x: usize, s: usize, e: usize, a: usize, b: usize, k: usize, d: usize)
+pub fn down_tags(
+    tags: &mut [u16],
+    x: usize,
+    s: usize,
+    e: usize,
+    a: usize,
+    b: usize,
+    k: usize,
+    d: usize,
+)
     requires { ⌜ CanDown (now tags) x s e a b k d ⌝ }
     ensures { λ r. ⌜ now (tags .exit) ≡ tagStores (now (tags .entry)) (downTags x s e a b k d) ⌝ }
 {
@@ -80,7 +91,7 @@ pub fn split(tags: &mut [u16], x: usize, s: usize, k: usize, d: usize)
 
 // A free block comes: its last tag, then its first, which may be at the same grain.
 pub fn lay_free(tags: &mut [u16], x: usize, s: usize)
-    requires { ⌜ Grains (now tags) x s ⌝ }
+    requires { ⌜ CanLayFree (now tags) x s ⌝ }
     ensures { λ r. ⌜ now (tags .exit) ≡ tagStores (now (tags .entry)) (layFreeTags x s) ⌝ }
 {
     lent::put_tag(tags, x + s - 1, lent::end_tag(s));
@@ -152,4 +163,40 @@ fn clear(tags: &mut [u16], x: usize)
     ensures { λ r. ⌜ now (tags .exit) ≡ tagStores (now (tags .entry)) ((Tag at x ≔ 0) ∷ []) ⌝ }
 {
     lent::put_tag(tags, x, 0);
+}
+
+// ---- the empty heap
+
+// Makes the tables those of a heap to which nothing was given. The arena is left as it is.
+pub fn init(lists: &mut [u64], tags: &mut [u16], regions: &mut [u64])
+    requires { ⌜ 1 ≤ length (now regions) ⌝ }
+    ensures { λ r. ⌜ Initial (now (lists .entry)) (now (tags .entry)) (now (regions .entry)) (now (lists .exit)) (now (tags .exit)) (now (regions .exit)) ⌝ }
+{
+    clear_lists(lists);
+    clear_tags(tags);
+    table::store(regions, 0, 0);
+}
+
+// No list is marked, and every head is 0.
+fn clear_lists(lists: &mut [u64])
+    ensures { λ r. ⌜ Zeros (now (lists .entry)) (now (lists .exit)) ⌝ }
+{
+    let n = lists.len();
+    let mut i = 0;
+    while i < n {
+        table::store(lists, i, 0);
+        i += 1;
+    }
+}
+
+// No grain has a tag.
+fn clear_tags(tags: &mut [u16])
+    ensures { λ r. ⌜ Zeros (now (tags .entry)) (now (tags .exit)) ⌝ }
+{
+    let n = tags.len();
+    let mut i = 0;
+    while i < n {
+        lent::put_tag(tags, i, 0);
+        i += 1;
+    }
 }

@@ -1,25 +1,22 @@
+-- `stamps::clear_after`: no write, or one.
 use borrow.Author.Needs.{needs}
+use Rattle.stamps.specs.Stores.{nothing, where-same, where-other}
 use Rattle.stamps.proofs.clear_after.Statement.{statement}
 use Rattle.stamps.proofs.clear_after.Tie as tie
-use Rattle.stamps.proofs.clear_after.Reads as reads
-use Rattle.stamps.proofs.clear_after.Lts as lts
-use Rattle.stamps.proofs.clear.Reads as clear-reads
 
--- src/lib.rt:120:9
 returns : tie.Need-returns
-returns c = ?
+returns c = where-same _ _ _ _ _ _ (c .if1 .taken) (nothing _)
 
--- src/lib.rt:122:5
 clear-requires : tie.Need-clear-requires
 clear-requires c κs = search needs
 
--- src/lib.rt:115:1
 same-length : tie.Need-same-length
 same-length c = search needs
 
--- src/lib.rt:115:1
 returns-2 : tie.Need-returns-2
-returns-2 c = ?
+returns-2 c =
+    let w = c .before .before in
+    where-other _ _ _ _ _ _ (w .before .before .if1 .left) (w .clear .ensures)
 
 pub clear-after-spec : {M : Type 1} → statement M
 clear-after-spec = tie.close (tie.spec returns clear-requires same-length returns-2)

@@ -1,52 +1,48 @@
+-- `stamps::down_tags`: its four parts, one after the other.
 use borrow.Author.Needs.{needs}
+use Prim.Native.Nat.{_+_, _-_}
+use Rattle.tags.specs.Writes.{allocateTags}
+use Rattle.stamps.specs.Stores.{then}
 use Rattle.stamps.proofs.down_tags.Statement.{statement}
 use Rattle.stamps.proofs.down_tags.Tie as tie
-use Rattle.stamps.proofs.down_tags.Reads as reads
-use Rattle.stamps.proofs.down_tags.Lts as lts
-use Rattle.stamps.proofs.allocate_tags.Reads as allocate-tags-reads
-use Rattle.stamps.proofs.clear_after.Reads as clear-after-reads
-use Rattle.stamps.proofs.clear_before.Reads as clear-before-reads
-use Rattle.stamps.proofs.clear_pad.Reads as clear-pad-reads
 
--- src/lib.rt:52:5
 clear-pad-requires : tie.Need-clear-pad-requires
 clear-pad-requires c κs = search needs
 
--- src/lib.rt:53:23
 add-clear-after : tie.Need-add-clear-after
 add-clear-after c = search needs
 
--- src/lib.rt:53:5
 clear-after-requires : tie.Need-clear-after-requires
 clear-after-requires c κs = search needs
 
--- src/lib.rt:54:5
 clear-before-requires : tie.Need-clear-before-requires
 clear-before-requires c κs = search needs
 
--- src/lib.rt:55:25
 sub-allocate-tags : tie.Need-sub-allocate-tags
 sub-allocate-tags c = search needs
 
--- src/lib.rt:55:37
 add-allocate-tags : tie.Need-add-allocate-tags
 add-allocate-tags c = search needs
 
--- src/lib.rt:55:32
 add-allocate-tags-2 : tie.Need-add-allocate-tags-2
 add-allocate-tags-2 c = search needs
 
--- src/lib.rt:55:5
 allocate-tags-requires : tie.Need-allocate-tags-requires
 allocate-tags-requires c κs = search needs
 
--- src/lib.rt:48:1
 same-length : tie.Need-same-length
 same-length c = search needs
 
--- src/lib.rt:48:1
 returns : tie.Need-returns
-returns c = ?
+returns c =
+    let f = c .before .before in
+    let b = f .before .before .before .before in
+    let a = b .before .before .before .before in
+    let p = a .before .before .before .before in
+    let g = p .before .before .before .args in
+    then _ _ _ _ _ (p .clear-pad .ensures)
+    (then _ _ _ _ _ (a .clear-after .ensures)
+    (then _ _ _ _ (allocateTags (g .x - g .a) (g .a + (g .s + g .b)) (g .k) (g .d)) (b .clear-before .ensures) (f .allocate-tags .ensures)))
 
 pub down-tags-spec : {M : Type 1} → statement M
 down-tags-spec =

@@ -1,43 +1,36 @@
+-- `stamps::lay_free`: two writes.
 use borrow.Author.Needs.{needs}
+use Rattle.stamps.specs.Stores.{stored, then}
 use Rattle.stamps.proofs.lay_free.Statement.{statement}
 use Rattle.stamps.proofs.lay_free.Tie as tie
-use Rattle.stamps.proofs.lay_free.Reads as reads
-use Rattle.stamps.proofs.lay_free.Lts as lts
-use Rattle.lent.proofs.end_tag.Reads as end-tag-reads
-use Rattle.lent.proofs.free_tag.Reads as free-tag-reads
-use Rattle.lent.proofs.put_tag.Reads as put-tag-reads
 
--- src/lib.rt:86:25
 add-put-tag : tie.Need-add-put-tag
 add-put-tag c = search needs
 
--- src/lib.rt:86:25
 sub-put-tag : tie.Need-sub-put-tag
 sub-put-tag c = search needs
 
--- src/lib.rt:86:36
 end-tag-requires : tie.Need-end-tag-requires
 end-tag-requires c κs = search needs
 
--- src/lib.rt:86:5
 put-tag-requires : tie.Need-put-tag-requires
 put-tag-requires c κs = search needs
 
--- src/lib.rt:87:28
 free-tag-requires : tie.Need-free-tag-requires
 free-tag-requires c κs = search needs
 
--- src/lib.rt:87:5
 put-tag-requires-2 : tie.Need-put-tag-requires-2
 put-tag-requires-2 c κs = search needs
 
--- src/lib.rt:82:1
 same-length : tie.Need-same-length
 same-length c = search needs
 
--- src/lib.rt:82:1
 returns : tie.Need-returns
-returns c = ?
+returns c =
+    let f = c .before .before in
+    let e = f .before .before .before .before .before in
+    then _ _ _ _ _ (stored _ _ _ _ _ (e .before .end-tag .ensures) (e .put-tag .ensures))
+    (stored _ _ _ _ _ (f .before .free-tag .ensures) (f .put-tag2 .ensures))
 
 pub lay-free-spec : {M : Type 1} → statement M
 lay-free-spec =
