@@ -1,12 +1,12 @@
 -- T11, deallocate: on any memory whose tags are those of blocks, it is refused, or the payload's block is joined with its free
 -- neighbours, just as the definition says.
-use Prim.Native.Nat.{ℕ, suc, _+_, _-_, _*_, _≤_, _<_}
+use Prim.Native.Nat.{ℕ, _+_, _-_, _*_, _<_}
 use native.Mathlib.Omega.{arith}
-use mathlib.Core.Path.{_≡_, refl, ap, sym, _∙_, subst}
-use mathlib.Core.List.{List, [], _∷_, _++_}
-use mathlib.Core.Logic.{_⊎_, inl, inr, ⊎-elim}
+use mathlib.Core.Path.{_≡_, refl, ap, sym, subst}
+use mathlib.Core.List.{List, _∷_, _++_}
+use mathlib.Core.Logic.{inr, ⊎-elim}
 use Rattle.class.specs.Class.{listOf}
-use Rattle.definition.specs.Blocks.{Block, free, used, gap, total, _⟨⟩_, Place, room, past}
+use Rattle.definition.specs.Blocks.{Block, free, used, total, _⟨⟩_, Place, room, past}
 use Rattle.definition.specs.Lists.{Lists}
 use Rattle.definition.specs.Calls.{Heap, granted, join, giveBack, giveBackAt}
 use Rattle.invariants.specs.Order.{out, order-split, total-zip, BlockAt, Apart, same, before, behind, apart, at-here, at-whole, stands-at, payload-at}
@@ -21,13 +21,13 @@ use Rattle.tags.specs.Writes.{deallocateTags}
 use Rattle.tags.specs.Within.{deallocate-field}
 use Rattle.tags.specs.Stamped.{deallocate-tagged}
 use Rattle.chains.specs.Closed.{Headed, Ready, ready-append}
-use Rattle.plans.specs.Deeds.{Deed, Plan, planOf, planScript}
+use Rattle.plans.specs.Deeds.{Plan, planOf}
 use Rattle.plans.specs.Checks.{Owner, seeOwner, seeGuard, seeAfter, seeBefore, seeJoin}
-use Rattle.plans.specs.Checked.{join-checked}
+use Rattle.plans.specs.Checked.{GuardStands, guard-checked, join-checked}
 use Rattle.plans.specs.Planned.{plan-checked}
 use Rattle.plans.specs.Deallocate.{leaveSteps, besideSteps, joinSteps, deallocateDeed, deallocateScript}
 use Rattle.armour.specs.Row.{Row, Free}
-use Rattle.armour.specs.Listing.{listing, listing-sane}
+use Rattle.armour.specs.Listing.{listing-sane}
 use Rattle.armour.specs.Turns.{linkBounds, Turns, Armoured, turns-armoured}
 use Rattle.armour.specs.Known.{headed-known, owner-known, Beside, after-known, before-known, whole-block}
 use Rattle.armour.specs.Changed.{tags-records, row-changed, leave-ready, join-ready}
@@ -108,6 +108,8 @@ pub record DeallocateArmoured (n c q : ℕ) (m : Memory) (xs : List Block) (f : 
   pub place : ℕ
   pub was-used : BlockAt block (used grains place) 0 xs
   pub payload : q ≡ 2 * block + place
+  -- the guard of its block stood
+  pub guarded : GuardStands m block
   pub heap : Heap
   -- the payload is no longer live, and every other block in use stays
   pub gone : (x s d : ℕ) → BlockAt x (used s d) 0 (heap .blocks) → q ≡ 2 * x + d → ⊥
@@ -139,12 +141,12 @@ deallocate-armoured n c q m xs f t o g =
     let v = inv-bind m (seeJoin n c (w .0 + (i .0 .grains + k .0))) _ (w .2) in
     subst (DeallocateArmoured n c q m xs f) (plan-checked m _ (v .2))
     (at-owner n c q m xs
-    (λ zs q x s d. Gives m (seeAfter n c (x + s)) (k .0) → Gives m (seeBefore n c x) (w .0) → Gives m (seeJoin n c (w .0 + (s + k .0))) (v .0) → DeallocateArmoured n c q m zs f (planOf m (deallocateDeed x s d (w .0) (k .0))))
-    o (i .1) (λ l r s d o a b e. returned l r s d (k .0) (w .0) o a b e) (k .1) (w .1) (v .1))
+    (λ zs q x s d. GuardStands m x → Gives m (seeAfter n c (x + s)) (k .0) → Gives m (seeBefore n c x) (w .0) → Gives m (seeJoin n c (w .0 + (s + k .0))) (v .0) → DeallocateArmoured n c q m zs f (planOf m (deallocateDeed x s d (w .0) (k .0))))
+    o (i .1) (λ l r s d o gd a b e. returned l r s d (k .0) (w .0) o gd a b e) (guard-checked m n (i .0 .at) (j .1)) (k .1) (w .1) (v .1))
   where
-    returned : (l r : List Block) (s d b a : ℕ) → Row n c m (l ⟨⟩ used s d ∷ r) → Gives m (seeAfter n c (total l + s)) b → Gives m (seeBefore n c (total l)) a → {u : Unit {0}} → Gives m (seeJoin n c (a + (s + b))) u
+    returned : (l r : List Block) (s d b a : ℕ) → Row n c m (l ⟨⟩ used s d ∷ r) → GuardStands m (total l) → Gives m (seeAfter n c (total l + s)) b → Gives m (seeBefore n c (total l)) a → {u : Unit {0}} → Gives m (seeJoin n c (a + (s + b))) u
         → DeallocateArmoured n c (2 * total l + d) m (l ⟨⟩ used s d ∷ r) f (planOf m (deallocateDeed (total l) s d a b))
-    returned l r s d b a o ga gb gj =
+    returned l r s d b a o gd ga gb gj =
         let x = after-known n c m l r s d o ga in
         let y = before-known n c m l r s d o gb in
         let z = join-checked m n c (a + (s + b)) gj in
@@ -159,6 +161,7 @@ deallocate-armoured n c q m xs f t o g =
           place = d;
           was-used = at-here l r (used s d);
           payload = refl;
+          guarded = gd;
           heap = join f l s r;
           gone = return-gone n c m f l r s d o;
           start = total (past l);

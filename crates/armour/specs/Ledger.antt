@@ -1,18 +1,22 @@
 -- A ledger of the payloads that are lent: where each is, how long it was asked for, and at which alignment. It is kept by the
 -- answers alone, as any caller could keep it. It is booked against blocks when each loan is backed by a used block, and each
 -- used block by one loan.
-use Prim.Native.Nat.{ℕ, _+_, _*_, _%_, _≤_, _<_}
+use Prim.Native.Nat.{ℕ, _+_, _*_, _/_, _%_, _≤_, _<_}
 use native.Mathlib.Omega.{arith}
 use mathlib.Core.Path.{_≡_, refl, ap, sym, _∙_, subst}
 use mathlib.Core.List.{List, [], _∷_}
 use mathlib.Core.Logic.{_⊎_, inl, inr, ⊎-elim}
 use Rattle.choice.specs.Choice.{ifEq, eq-yes, eq-no, same?}
-use Rattle.definition.specs.Blocks.{Block, free, used, total}
-use Rattle.invariants.specs.Order.{out, Ordered, BlockAt, at-whole, at-end, one-block}
+use Rattle.definition.specs.Blocks.{Block, free, used, gap, size, total}
+use Rattle.invariants.specs.Order.{out, Ordered, BlockAt, Apart, same, before, behind, apart, at-whole, at-end, one-block}
 use Rattle.invariants.specs.Moves.{free-used}
+use Rattle.invariants.specs.Gaps.{gap-used}
 use Rattle.invariants.specs.Promises.{used-apart}
+use Rattle.script.specs.Memory.{Memory}
+use Rattle.sound.specs.Sound.{InTable, Given}
 use Rattle.sound.specs.Swaps.{Swaps, owner-unique, used-place}
 use Rattle.plans.specs.Calls.{Call, Allocate, Deallocate, Reallocate, Insert, Append}
+use Rattle.armour.specs.Dead.{NotLiveIn}
 
 pub record Loan : Type 0 where
   pub payload : ℕ
@@ -56,7 +60,23 @@ pub record Booked (xs : List Block) (l : List Loan) : Type 0 where
   pub all : (x s d : ℕ) → BlockAt x (used s d) 0 xs → (e : Loan) × In e l × (e .payload ≡ 2 * x + d)
   pub once : Once l
 
--- ---- what follows: two loans share no half grain, and each lies inside the arena
+-- the half grain h belongs to the loan
+abbrev pub HalfOf : Loan → ℕ → Type 0
+HalfOf e h = (e .payload ≤ h) × (h < e .payload + e .halves)
+
+-- Where a loan lies: in its used block, from the payload's place on, so after the guard and any padding. The grains of the loan
+-- belong to that block alone: to no gap, no sentinel, no free block and no other used one. And each of them was given.
+pub record Lies (m : Memory) (xs : List Block) (e : Loan) : Type 0 where
+  pub own : Backed xs e
+  pub past-guard : 2 * own .x < e .payload
+  pub alone : (h : ℕ) → HalfOf e h → (y : ℕ) (b : Block) → BlockAt y b 0 xs → y ≤ h / 2 → h / 2 < y + size b → (own .x ≡ y) × (used (own .s) (own .d) ≡ b)
+  pub given : (h : ℕ) → HalfOf e h → InTable m (h / 2)
+
+-- the payload at q is not lent
+abbrev pub Unlent : List Loan → ℕ → Type 0
+Unlent l q = (e : Loan) → In e l → e .payload ≡ q → ⊥
+
+-- ---- what follows: two loans share no half grain, and each lies in its block and inside the arena
 
 pub loans-apart : (xs : List Block) (l : List Loan) → Ordered out xs → Booked xs l → (e g : Loan) → In e l → In g l → (e .payload ≡ g .payload → ⊥)
     → (e .payload + e .halves ≤ g .payload) ⊎ (g .payload + g .halves ≤ e .payload)
@@ -74,6 +94,33 @@ loans-apart xs l o b e g i j ne =
 
 pub loan-inside : (xs : List Block) (l : List Loan) → Booked xs l → (e : Loan) → In e l → e .payload + e .halves ≤ 2 * total xs
 loan-inside xs l b e i = let u = b .backed e i in omega (arith, u .place, u .long, at-end (u .x) (used (u .s) (u .d)) 0 xs (u .block))
+
+loan-alone : (xs : List Block) (e : Loan) (w : Backed xs e) (h : ℕ) → HalfOf e h → (y : ℕ) (b : Block) → BlockAt y b 0 xs → y ≤ h / 2 → h / 2 < y + size b
+    → (w .x ≡ y) × (used (w .s) (w .d) ≡ b)
+loan-alone xs e w h i y b t low high = go (apart (w .x) y 0 (used (w .s) (w .d)) b xs (w .block) t)
+  where
+    go : Apart (w .x) (used (w .s) (w .d)) y b → (w .x ≡ y) × (used (w .s) (w .d) ≡ b)
+    go (same p q) = (p, q)
+    go (before p) = absurd (omega (arith, w .place, w .long, i .1))
+    go (behind p) = absurd (omega (arith, w .place, i .0))
+
+pub loan-lies : (m : Memory) (xs : List Block) (l : List Loan) → Ordered out xs → Given m xs → Booked xs l → (e : Loan) → In e l → Lies m xs e
+loan-lies m xs l o g b e i =
+    let w = b .backed e i in
+    let u = at-whole (w .x) (used (w .s) (w .d)) 0 out xs o (w .block) in
+    record {
+      own = w;
+      past-guard = omega (arith, w .place, u .1 .some);
+      alone = loan-alone xs e w;
+      given = λ h k. ⊎-elim
+          (λ (t : BlockAt (h / 2) gap 0 xs). absurd (gap-used (loan-alone xs e w h k (h / 2) gap t (omega arith) (omega arith) .1)))
+          (λ (t : InTable m (h / 2)). t)
+          (g .either (h / 2) (omega (arith, k .1, loan-inside xs l b e i)));
+    }
+
+-- and a payload that is not lent is not live
+pub unlent-dead : (xs : List Block) (l : List Loan) (q : ℕ) → Booked xs l → Unlent l q → NotLiveIn xs q
+unlent-dead xs l q b n x s d h e = let g = b .all x s d h in n (g .0) (g .1) (g .2 ∙ sym e)
 
 -- ---- striking a loan
 

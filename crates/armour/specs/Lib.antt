@@ -7,6 +7,7 @@ pub mod Known
 pub mod Changed
 pub mod Allocates
 pub mod Deallocates
+pub mod Dead
 pub mod InPlace
 pub mod Apart
 pub mod Elsewhere

@@ -1,14 +1,14 @@
 -- T11, reallocate: on any memory whose tags are those of blocks, it is refused, or the payload is resized as the definition says,
 -- where a block that is taken elsewhere may be any free block of a list that is searched. The payload stays, or arrives.
-use Prim.Native.Nat.{ℕ, suc, _+_, _-_, _*_, _%_, _≤_, _<_}
+use Prim.Native.Nat.{ℕ, _+_, _-_, _*_, _%_, _≤_, _<_}
 use native.Mathlib.Omega.{arith}
 use mathlib.Core.Path.{_≡_, refl, ap, sym, _∙_, subst}
 use mathlib.Core.List.{List, [], _∷_, _++_}
-use mathlib.Core.Logic.{_⊎_, inl, inr, ⊎-elim}
+use mathlib.Core.Logic.{_⊎_, inl, inr}
 use Rattle.class.specs.Class.{listOf, startOf}
 use Rattle.definition.specs.Blocks.{Block, free, used, total, _⟨⟩_, room, past}
 use Rattle.definition.specs.Lists.{Lists, skip, found}
-use Rattle.definition.specs.Calls.{Heap, Answer, granted, wanted, place, keeps, leave, takeAt, backAfter, elsewhere, resize}
+use Rattle.definition.specs.Calls.{Heap, granted, wanted, place, keeps, leave, takeAt, backAfter, elsewhere, resize}
 use Rattle.invariants.specs.Order.{BlockAt, at-here}
 use Rattle.invariants.specs.Neighbours.{total-past}
 use Rattle.invariants.specs.Placing.{Align, align-pos, place-aligned, keeps-holds}
@@ -16,9 +16,10 @@ use Rattle.invariants.specs.Promises.{leave-here}
 use Rattle.script.specs.Memory.{Memory}
 use Rattle.script.specs.Script.{Gives, inv-bind}
 use Rattle.sound.specs.Swaps.{Swaps}
-use Rattle.chains.specs.Closed.{Ready, ready-append}
+use Rattle.chains.specs.Closed.{ready-append}
 use Rattle.plans.specs.Deeds.{Deed, Plan, planOf}
 use Rattle.plans.specs.Checks.{seeOwner, seeGuard}
+use Rattle.plans.specs.Checked.{GuardStands, guard-checked}
 use Rattle.plans.specs.Planned.{plan-checked}
 use Rattle.plans.specs.Allocate.{restSteps}
 use Rattle.plans.specs.Deallocate.{leaveSteps, besideSteps}
@@ -29,11 +30,10 @@ use Rattle.armour.specs.Known.{Beside}
 use Rattle.armour.specs.Changed.{rest-free, leave-ready, rest-ready}
 use Rattle.armour.specs.Deallocates.{at-owner, beside-ready}
 use Rattle.armour.specs.InPlace.{here, stay-turns, stay-defined, stretched, stretch-defined, stretch-swaps, stretch-turns, lowered, down-defined, down-swaps, down-gone, down-turns, elsewhere-defined}
-use Rattle.armour.specs.Apart.{Cramped}
-use Rattle.armour.specs.Elsewhere.{Away, elsewhere-turns}
+use Rattle.armour.specs.Elsewhere.{elsewhere-turns}
 use Rattle.armour.specs.Resizes.{Rests, Both, Step, stays, stretches, lowers, moves, resize-known}
 use Rattle.armour.specs.Carried.{Carried}
-use Rattle.armour.specs.Moved.{before-free, down-carried, elsewhere-carried}
+use Rattle.armour.specs.Moved.{before-free, fits, down-carried, elsewhere-carried}
 
 -- the answer v and the heap g are the definition's; or those it gives with another free block of a list that it searches
 pub data Answered (c : ℕ) (h : Heap) (q p a v : ℕ) (g : Heap) : Type 0 where
@@ -67,6 +67,8 @@ pub record ReallocateArmoured (n c q p a : ℕ) (m : Memory) (xs : List Block) (
   pub place : ℕ
   pub was-used : BlockAt block (used grains place) 0 xs
   pub owner : q ≡ 2 * block + place
+  -- the guard of its block stood
+  pub guarded : GuardStands m block
   pub heap : Heap
   -- its block afterwards; every other block in use stays
   pub resized : Resized c p a xs (heap .blocks) block grains place q (t .answer)
@@ -74,6 +76,8 @@ pub record ReallocateArmoured (n c q p a : ℕ) (m : Memory) (xs : List Block) (
   pub armoured : Armoured n c m xs t (heap .blocks)
   -- q is a multiple of a: the public call refuses every other alignment
   pub payload : q % a ≡ 0 → Payload q block grains place (heap .blocks) t
+  -- what is moved was in the old payload, and the new one has room for it
+  pub moved : (t .moved ≤ 2 * grains - place) × (t .moved ≤ p)
 
 -- ---- the used block of s grains between l and r
 
@@ -84,6 +88,7 @@ pub record Turned (n c p a : ℕ) (m : Memory) (f : Lists) (l r : List Block) (s
   pub defined : Answered c (record { blocks = l ⟨⟩ used s d ∷ r; lists = f }) (2 * total l + d) p a (t .answer) heap
   pub turns : Turns n c m (l ⟨⟩ used s d ∷ r) t (heap .blocks)
   pub payload : (2 * total l + d) % a ≡ 0 → Payload (2 * total l + d) (total l) s d (heap .blocks) (planOf m t)
+  pub moved : (t .moved ≤ 2 * s - d) × (t .moved ≤ p)
 
 module _ (n c p a : ℕ) (m : Memory) (f : Lists) (l r : List Block) (s d : ℕ) (al : Align a) (o : Row n c m (l ⟨⟩ used s d ∷ r)) where
   abbrev xs : List Block
@@ -131,6 +136,7 @@ module _ (n c p a : ℕ) (m : Memory) (f : Lists) (l r : List Block) (s d : ℕ)
     defined = alone (stay-defined n c p a m f l r s d al o e);
     turns = stay-turns n c p a m f l r s d al o;
     payload = λ _. kept s (at-here l r (used s d)) refl refl;
+    moved = (omega arith, omega arith);
   }
   turned (stretches ne le b h) =
       let g = stretched n c p a m f l r s d al o in
@@ -151,6 +157,7 @@ module _ (n c p a : ℕ) (m : Memory) (f : Lists) (l r : List Block) (s d : ℕ)
         defined = alone (stretch-defined n c p a m f l r s d al o ne le);
         turns = stretch-turned le b h;
         payload = λ _. kept (keeps d p) (leave-here (skip r (total l + s) f) l (past r) (s + room r) (keeps d p) d le) refl refl;
+        moved = (omega arith, omega arith);
       }
   turned (lowers ne gt nr le b h) =
       let g = lowered n c p a m f l r s d al o in
@@ -173,6 +180,7 @@ module _ (n c p a : ℕ) (m : Memory) (f : Lists) (l r : List Block) (s d : ℕ)
         defined = alone (down-defined n c p a m f l r s d al o ne gt nr le ∙ ap (λ (z : ℕ). granted (2 * z + place a (total (past l))) (lowered n c p a m f l r s d al o)) z);
         turns = down-turned nr le b h;
         payload = λ e. arrives (down-carried n c p a m l r s d al o gt b nr h e);
+        moved = (omega arith, fits n c p a m l r s d al o gt b);
       }
   turned (moves t ne k b v j) =
       let w = elsewhere-turns n c p a m f al l r s d t o k v (b .after) (b .before) j in
@@ -195,6 +203,7 @@ module _ (n c p a : ℕ) (m : Memory) (f : Lists) (l r : List Block) (s d : ℕ)
             (ap (λ (i : ℕ). backAfter (takeAt (record { blocks = l ⟨⟩ used s d ∷ r; lists = f }) p a (found i (t .block))) (2 * total l + d)) (v .class) ∙ w .defined);
         turns = w .turns;
         payload = λ _. arrives (elsewhere-carried n c p a m l r s d al o (k .after) b t v j);
+        moved = (omega arith, fits n c p a m l r s d al o (k .after) b);
       }
 
 pub reallocate-armoured : (n c q p a : ℕ) (m : Memory) (xs : List Block) (f : Lists) (t : Plan) → Align a → Row n c m xs → Gives m (reallocateScript n c q p a) t → ReallocateArmoured n c q p a m xs f t
@@ -204,17 +213,19 @@ reallocate-armoured n c q p a m xs f t al o g =
     let j = inv-bind m (seeGuard (i .0 .at)) _ (i .2) in
     let k = inv-bind m (resizeScript n c q p a (i .0 .at) (i .0 .grains) (q - 2 * i .0 .at)) _ (j .2) in
     subst (ReallocateArmoured n c q p a m xs f) (plan-checked m (k .0) (k .2))
-    (at-owner n c q m xs (λ zs q x s d. Gives m (resizeScript n c q p a x s d) (k .0) → ReallocateArmoured n c q p a m zs f (planOf m (k .0))) o (i .1)
-    (λ l r s d o h. let w = turned n c p a m f l r s d al o (resize-known n c p a m l r s d al o h) in
+    (at-owner n c q m xs (λ zs q x s d. GuardStands m x → Gives m (resizeScript n c q p a x s d) (k .0) → ReallocateArmoured n c q p a m zs f (planOf m (k .0))) o (i .1)
+    (λ l r s d o gd h. let w = turned n c p a m f l r s d al o (resize-known n c p a m l r s d al o h) in
     record {
       block = total l;
       grains = s;
       place = d;
       was-used = at-here l r (used s d);
       owner = refl;
+      guarded = gd;
       heap = w .heap;
       resized = w .resized;
       defined = w .defined;
       armoured = turns-armoured n c m (l ⟨⟩ used s d ∷ r) (k .0) (w .heap .blocks) (w .turns);
       payload = w .payload;
-    }) (k .1))
+      moved = w .moved;
+    }) (guard-checked m n (i .0 .at) (j .1)) (k .1))

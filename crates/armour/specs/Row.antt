@@ -10,11 +10,11 @@ use Rattle.definition.specs.Calls.{Heap}
 use Rattle.invariants.specs.Order.{out, Ordered, BlockAt}
 use Rattle.invariants.specs.Pieces.{pieces, Listed}
 use Rattle.invariants.specs.Moves.{Exact}
-use Rattle.script.specs.Memory.{Memory, Next, Prev}
+use Rattle.script.specs.Memory.{Memory}
 use Rattle.sound.specs.Sound.{Given}
-use Rattle.machine.specs.Machine.{guardNext, guardPrev}
 use Rattle.tags.specs.Tag.{Tag, Tagged}
 use Rattle.chains.specs.Strung.{Strung}
+use Rattle.plans.specs.Checked.{GuardStands}
 
 -- an arena of n grains, with c first-level classes
 pub record Row (n c : ℕ) (m : Memory) (xs : List Block) : Type 0 where
@@ -26,7 +26,7 @@ pub record Row (n c : ℕ) (m : Memory) (xs : List Block) : Type 0 where
 
 -- each used block has its guard
 abbrev pub Guarded : Memory → List Block → Type 0
-Guarded m xs = (x s d : ℕ) → BlockAt x (used s d) 0 xs → (m Next x ≡ guardNext x) × (m Prev x ≡ guardPrev x)
+Guarded m xs = (x s d : ℕ) → BlockAt x (used s d) 0 xs → GuardStands m x
 
 pub record Sound (n c : ℕ) (m : Memory) (h : Heap) : Type 0 where
   pub row : Row n c m (h .blocks)

@@ -1,13 +1,12 @@
 -- T11 over runs: any calls, one after the other, and between them any damage to everything but the tags and the table of regions.
 -- A caller who keeps a ledger of the answers sees that what is lent stays right: no two loans share a half grain, each is
--- long enough and at its alignment, and each lies inside the arena.
-use Prim.Native.Nat.{ℕ, _+_, _*_, _%_, _≤_, _<_}
+-- long enough and at its alignment, and each lies in a used block of its own, in what was given. What is not lent is refused.
+use Prim.Native.Nat.{ℕ, _+_, _*_, _%_, _≤_}
 use native.Mathlib.Omega.{arith}
-use mathlib.Core.Path.{_≡_, refl, ap, sym, _∙_, subst}
+use mathlib.Core.Path.{_≡_, refl, sym, _∙_, subst}
 use mathlib.Core.List.{List, [], _∷_}
-use mathlib.Core.Logic.{_⊎_, inl, inr, ⊎-elim}
-use Rattle.definition.specs.Blocks.{Block, used, total}
-use Rattle.invariants.specs.Order.{out, Ordered, BlockAt}
+use mathlib.Core.Logic.{_⊎_, ⊎-elim}
+use Rattle.definition.specs.Blocks.{Block}
 use Rattle.script.specs.Memory.{Memory, Table}
 use Rattle.script.specs.Script.{Result, ok, no, run, Gives}
 use Rattle.tags.specs.Tag.{Tag}
@@ -17,9 +16,10 @@ use Rattle.armour.specs.Row.{Row}
 use Rattle.armour.specs.Turns.{Armoured, row-same}
 use Rattle.armour.specs.Allocates.{allocate-armoured}
 use Rattle.armour.specs.Deallocates.{deallocate-armoured}
-use Rattle.armour.specs.Reallocates.{Resized, reallocate-armoured}
+use Rattle.armour.specs.Dead.{Names, call-dead}
+use Rattle.armour.specs.Reallocates.{reallocate-armoured}
 use Rattle.armour.specs.Regions.{RegionArmoured, insert-armoured, append-armoured}
-use Rattle.armour.specs.Ledger.{Loan, In, strike, book, Backed, Booked, booked-more, booked-less, booked-other, loans-apart, loan-inside}
+use Rattle.armour.specs.Ledger.{Loan, In, strike, book, Booked, booked-more, booked-less, booked-other, loans-apart, loan-inside, Lies, loan-lies, Unlent, unlent-dead}
 
 -- ---- one call
 
@@ -138,3 +138,17 @@ pub lent-right : (n c most : ℕ) (s : State) (l : List Turn) → 1 ≤ c → Ri
 lent-right n c most s l big o e i =
     let r = runs-right n c most s l big o in
     (r .booked .backed e i .aligned, omega (arith, loan-inside (r .blocks) _ (r .booked) e i, r .row .whole))
+
+-- each lies in its own block of the row, and so in what was given
+pub lent-lies : (n c most : ℕ) (s : State) (l : List Turn) (big : 1 ≤ c) (o : Right n c s) (e : Loan) → In e (history n c most s l .ledger)
+    → Lies (history n c most s l .memory) (runs-right n c most s l big o .blocks) e
+lent-lies n c most s l big o e i = let r = runs-right n c most s l big o in loan-lies _ (r .blocks) _ (r .row .order) (r .row .given) (r .booked) e i
+
+-- After any run, and after any damage of the same kind once more: a call that is given a payload which is not lent is refused
+-- with 3. So it is with a second return, and with an address that was never handed out.
+pub unlent-refused : (n c most : ℕ) (s : State) (l : List Turn) → 1 ≤ c → Right n c s → (t : Turn) (q : ℕ) → Names (t .call) q → Unlent (history n c most s l .ledger) q
+    → run (t .damage (history n c most s l .memory)) (scriptOf n c most (t .call)) ≡ no 3
+unlent-refused n c most s l big o t q k i =
+    let r = runs-right n c most s l big o in
+    let v = history n c most s l .memory in
+    call-dead n c most (t .damage v) (r .blocks) (t .call) q (row-same n c v (t .damage v) (r .blocks) (t .tags-stay v) (t .regions-stay v) (r .row)) k (unlent-dead (r .blocks) _ q (r .booked) i)

@@ -1,11 +1,11 @@
 -- Blocks that are in use before a call and after it: no link or guard is written in a grain of theirs, so neither their payload
 -- nor their guard changes.
-use Prim.Native.Nat.{ℕ, _+_, _*_, _≤_, _<_}
+use Prim.Native.Nat.{ℕ, _+_, _≤_, _<_}
 use native.Mathlib.Omega.{arith}
-use mathlib.Core.Path.{_≡_, refl, ap, sym, _∙_, subst}
+use mathlib.Core.Path.{_≡_, ap, sym, _∙_, subst}
 use mathlib.Core.List.{List, [], _∷_, _++_}
-use mathlib.Core.Logic.{_⊎_, inl, inr, ⊎-elim}
-use Rattle.choice.specs.Choice.{upd, upd-same, upd-other, same?}
+use mathlib.Core.Logic.{inl, inr, ⊎-elim}
+use Rattle.choice.specs.Choice.{upd-same, upd-other, same?}
 use Rattle.definition.specs.Blocks.{Block, free, used}
 use Rattle.invariants.specs.Order.{out, Ordered, BlockAt, Apart, same, before, behind, apart, at-whole}
 use Rattle.invariants.specs.Members.{Mem}
@@ -15,7 +15,8 @@ use Rattle.machine.specs.Machine.{guardNext, guardPrev}
 use Rattle.tags.specs.Each.{Each}
 use Rattle.chains.specs.Steps.{stepsWrites}
 use Rattle.plans.specs.Deeds.{Deed, Plan, guardWrites, earlyWrites, planOf, writes, after}
-use Rattle.armour.specs.Row.{Row, Guarded, Free, Either}
+use Rattle.plans.specs.Checked.{GuardStands}
+use Rattle.armour.specs.Row.{Guarded, Free, Either}
 use Rattle.armour.specs.Turns.{Turns, Proper, Armoured, linked, stepped, after-is, records-rest, steps-proper, turns-armoured}
 
 -- no free block starts in a used one
@@ -64,12 +65,8 @@ words-stay n c m xs t ys o a y u =
 
 -- ---- guards
 
--- the guard of x stands
-abbrev Stands : Memory → ℕ → Type 0
-Stands m x = (m Next x ≡ guardNext x) × (m Prev x ≡ guardPrev x)
-
 -- a guard that stands stays when guards are written
-guard-kept : (m : Memory) (x : ℕ) (l : List ℕ) → Stands m x → Stands (apply m (guardWrites l)) x
+guard-kept : (m : Memory) (x : ℕ) (l : List ℕ) → GuardStands m x → GuardStands (apply m (guardWrites l)) x
 guard-kept m x [] h = h
 guard-kept m x (y ∷ l) h = guard-kept (apply m ((Next at y ≔ guardNext y) ∷ (Prev at y ≔ guardPrev y) ∷ [])) x l (⊎-elim
     (λ (e : x ≡ y). (upd-same (m Next) y (guardNext y) x e ∙ ap guardNext (sym e), upd-same (m Prev) y (guardPrev y) x e ∙ ap guardPrev (sym e)))
@@ -77,7 +74,7 @@ guard-kept m x (y ∷ l) h = guard-kept (apply m ((Next at y ≔ guardNext y) �
     (same? x y))
 
 -- and one that is written stands
-guard-set : (m : Memory) (x : ℕ) (l : List ℕ) → Mem x l → Stands (apply m (guardWrites l)) x
+guard-set : (m : Memory) (x : ℕ) (l : List ℕ) → Mem x l → GuardStands (apply m (guardWrites l)) x
 guard-set m x (y ∷ l) (inl e) = guard-kept (apply m ((Next at y ≔ guardNext y) ∷ (Prev at y ≔ guardPrev y) ∷ [])) x l
     (upd-same (m Next) y (guardNext y) x e ∙ ap guardNext (sym e), upd-same (m Prev) y (guardPrev y) x e ∙ ap guardPrev (sym e))
 guard-set m x (y ∷ l) (inr h) = guard-set (apply m ((Next at y ≔ guardNext y) ∷ (Prev at y ≔ guardPrev y) ∷ [])) x l h
@@ -87,7 +84,7 @@ pub turns-guarded : (n c : ℕ) (m : Memory) (xs : List Block) (t : Deed) (ys : 
 turns-guarded n c m xs t ys o v g x s d b =
     let e = after-is m t in
     let r = t .records in
-    let q : Stands (linked m t) x = ⊎-elim
+    let q : GuardStands (linked m t) x = ⊎-elim
     (λ (i : Mem x (t .guards)). guard-set (stepped m t) x (t .guards) i)
     (λ (i : (u : ℕ) × (e : ℕ) × BlockAt x (used u e) 0 xs). guard-kept (stepped m t) x (t .guards) (before-call (i .0) (i .1) (i .2)))
     (v .used-before x s d b) in (
@@ -95,7 +92,7 @@ turns-guarded n c m xs t ys o v g x s d b =
       ap (λ (u : Memory). u Prev x) e ∙ ap (λ (f : ℕ → ℕ). f x) (apply-untouched (linked m t) r Prev (records-rest Prev (omega arith) (omega arith) r (v .records))) ∙ q .1,
     )
   where
-    before-call : (u f : ℕ) → BlockAt x (used u f) 0 xs → Stands (stepped m t) x
+    before-call : (u f : ℕ) → BlockAt x (used u f) 0 xs → GuardStands (stepped m t) x
     before-call u f i =
         let a = turns-armoured n c m xs t ys v in
         let w = earlyWrites m t ++ stepsWrites (apply m (earlyWrites m t)) (t .late) in

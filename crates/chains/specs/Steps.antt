@@ -1,9 +1,9 @@
 -- What a call does to the lists: some blocks leave theirs, and some enter one, step by step. Each step reads the words as
 -- the steps before it left them, so nothing that was read earlier has to be corrected.
-use Prim.Native.Nat.{ℕ, suc, _+_, _*_, _≤_}
+use Prim.Native.Nat.{ℕ, suc, _+_, _*_}
 use mathlib.Core.Path.{_≡_, refl, ap, sym, _∙_, subst}
 use mathlib.Core.List.{List, [], _∷_, _++_, append-assoc}
-use lib.ListN.{length, length-append}
+use lib.ListN.{length}
 use native.Mathlib.Omega.{arith}
 use Rattle.definition.specs.Lists.{Lists, push, drop}
 use Rattle.script.specs.Memory.{Memory, Next, Prev, Mark, Write, apply, apply-append}
@@ -55,7 +55,7 @@ stepsScript (s ∷ l) = do
   v ← over w (stepsScript l)
   done (w ++ v)
 
--- a step reads four words, and writes five, at the most
+-- a step reads four words at the most
 step-few : (s : Step) → AtMost 0 (stepScript s) 4
 step-few (leave k y) = λ x p h b. tt
 step-few (enter k y) = λ b h. tt
@@ -67,14 +67,6 @@ steps-few (s ∷ l) =
     let e : 4 + (4 * length l + 0) ≡ 4 * suc (length l) = omega arith in
     subst (AtMost 0 (stepsScript (s ∷ l))) e (few-bind 0 (stepScript s) _ 4 (4 * length l + 0) (step-few s) λ w.
     few-bind 0 (over w (stepsScript l)) _ (4 * length l) 0 (over-few 0 w (stepsScript l) (4 * length l) (steps-few l)) λ v. tt)
-
-step-length : (m : Memory) (s : Step) → length (stepWrites m s) ≤ 5
-step-length m (leave k y) = omega arith
-step-length m (enter k y) = omega arith
-
-pub steps-length : (m : Memory) (l : List Step) → length (stepsWrites m l) ≤ 5 * length l
-steps-length m [] = omega arith
-steps-length m (s ∷ l) = rw length-append (omega (arith, step-length m s, steps-length (apply m (stepWrites m s)) l))
 
 -- the script gives what the steps write
 step-gives : (m : Memory) (s : Step) → Gives m (stepScript s) (stepWrites m s)

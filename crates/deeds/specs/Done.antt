@@ -2,13 +2,12 @@
 -- of the deed's writes.
 use Prim.Native.Nat.{ℕ}
 use mathlib.Core.Path.{_≡_, refl, ap, sym, _∙_}
-use mathlib.Core.List.{List, [], _∷_, _++_}
-use Rattle.script.specs.Memory.{Memory, Write}
+use mathlib.Core.List.{List, [], _∷_}
 use Rattle.machine.specs.Machine.{guardNext, guardPrev}
 use Rattle.tags.specs.Each.{Each}
 use Rattle.tags.specs.Within.{ToTag}
 use Rattle.plans.specs.Deeds.{Deed, guardWrites}
-use Rattle.lent.specs.Slices.{Slices, putNext, putPrev, withTags, stores}
+use Rattle.lent.specs.Slices.{Slices, putNext, putPrev, stores}
 use Rattle.stamps.specs.Stores.{tagStores, stores-tags}
 use Rattle.entries.specs.Answers.{slices}
 use Rattle.deeds.specs.Stored.{stepped, done, deed-stored}

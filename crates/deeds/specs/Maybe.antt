@@ -1,7 +1,7 @@
 -- Steps that are made only if there is something to do: a neighbour that may be missing leaves, a rest that may be nothing
 -- enters.
 use Prim.Native.Nat.{ℕ, _+_, _-_, _<_}
-use mathlib.Core.Path.{_≡_, refl, sym, subst}
+use mathlib.Core.Path.{_≡_, sym, subst}
 use mathlib.Core.List.{List, [], _∷_}
 use Rattle.choice.specs.Choice.{eq-yes, eq-no, eq-case}
 use Rattle.class.specs.Class.{listOf}

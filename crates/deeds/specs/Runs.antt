@@ -1,23 +1,21 @@
 -- Steps made on the arena and the lists (`Runs`), and what must be known before the first of them (`CanRun`): the links of
 -- the blocks that leave, and the heads before which blocks enter, are grains. It is then known before each later one.
-use Prim.Native.Nat.{ℕ, _+_, _*_, _≤_, _<_}
+use Prim.Native.Nat.{ℕ, _+_, _<_}
 use native.Mathlib.Omega.{arith}
 use mathlib.Core.Path.{_≡_, refl, ap, sym, _∙_, subst}
-use mathlib.Core.List.{List, [], _∷_, _++_, append-nil}
-use mathlib.Core.Logic.{_⊎_, inl, inr, ⊎-elim}
+use mathlib.Core.List.{List, [], _∷_, _++_}
+use mathlib.Core.Logic.{⊎-elim}
 use lib.ListN.{length}
 use Rattle.table.specs.Table.{entry}
 use Rattle.bits.specs.Map.{mapBit, map-bit-lt}
-use Rattle.script.specs.Memory.{Memory, Next, Prev, Mark, Write, apply}
+use Rattle.script.specs.Memory.{Memory, Write, apply}
 use Rattle.machine.specs.Machine.{words, classes, mapWords}
 use Rattle.machine.specs.Machine.{lists as listCount}
 use Rattle.tags.specs.Each.{Each}
-use Rattle.chains.specs.Links.{Head}
 use Rattle.chains.specs.Steps.{Step, leave, enter, stepWrites, stepsWrites}
 use Rattle.chains.specs.Closed.{LinkWrite, atNext, atPrev, atHead, atMark, Ready, Shown, Fit, leave-ready, enter-ready, leave-shown, enter-shown, steps-done}
 use Rattle.plans.specs.StorableParts.{bounds}
-use Rattle.lent.specs.Slices.{Slices, grains, memoryOf, stores, nextAt, prevAt, headAt, AllValid, Valid}
-use Rattle.lent.specs.Fields.{memory-next, memory-prev, memory-head, memory-mark}
+use Rattle.lent.specs.Slices.{Slices, grains, memoryOf, stores, AllValid, Valid}
 use Rattle.lent.specs.Kept.{Lengths, stores-lengths, grains-keep, all-valid-keep, all-valid-append}
 use Rattle.lent.specs.Stored.{stores-memory}
 use Rattle.entries.specs.Answers.{slices, Long}

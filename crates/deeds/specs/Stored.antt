@@ -1,14 +1,13 @@
 -- The plan of a deed, stored part by part: the early steps, the late ones, the guards, the records. Each part is made from the
 -- slices as the part before left them.
-use Prim.Native.Nat.{ℕ}
-use mathlib.Core.Path.{_≡_, refl, ap, sym, _∙_, subst}
+use mathlib.Core.Path.{_≡_, ap, sym, _∙_}
 use mathlib.Core.List.{List, [], _∷_, _++_}
 use Rattle.script.specs.Memory.{Memory, Write, apply}
 use Rattle.chains.specs.Steps.{Step, stepWrites, stepsWrites, steps-append}
 use Rattle.lent.specs.Slices.{Slices, memoryOf, stores, AllValid}
-use Rattle.lent.specs.Kept.{stores-append, all-valid-append}
+use Rattle.lent.specs.Kept.{stores-append}
 use Rattle.lent.specs.Stored.{stores-memory}
-use Rattle.plans.specs.Deeds.{Deed, Plan, guardWrites, earlyWrites, lateWrites, planOf, writes}
+use Rattle.plans.specs.Deeds.{Deed, guardWrites, earlyWrites, lateWrites, planOf, writes}
 
 -- the slices after some steps
 abbrev pub stepped : Slices → List Step → Slices

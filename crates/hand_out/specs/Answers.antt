@@ -1,5 +1,4 @@
 -- The answer of a search, read as the result of its script.
-use Prim.Native.Nat.{ℕ}
 use Rattle.choice.specs.Choice.{ifEq}
 use Rattle.script.specs.Script.{Result, ok, no}
 use Rattle.plans.specs.Allocate.{Taken}

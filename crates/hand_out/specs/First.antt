@@ -1,23 +1,21 @@
 -- The first block of a list: what is asked of its words, once its tags agree.
-use Prim.Native.Nat.{ℕ, _/_, _<_}
+use Prim.Native.Nat.{ℕ, _<_}
 use native.Mathlib.Omega.{arith}
-use mathlib.Core.Path.{_≡_, refl, ap, sym, _∙_, subst}
-use mathlib.Core.Bool.{Bool, true, false}
+use mathlib.Core.Path.{_≡_, _∙_, subst}
+use mathlib.Core.Bool.{Bool}
 use mathlib.Core.List.{List}
 use Rattle.choice.specs.Says.{Says}
 use Rattle.class.specs.Class.{listOf}
 use Rattle.table.specs.Table.{entry}
 use Rattle.script.specs.Memory.{Memory, Next, Prev}
-use Rattle.script.specs.Script.{Script, done, run, _>>=_, _>>_, get, mustEq, goes, halts, inv-bind, inv-get, inv-done, inv-eq}
+use Rattle.script.specs.Script.{Script, done, run, get, mustEq, goes, halts, inv-bind, inv-get, inv-done, inv-eq, _>>=_, _>>_}
 use Rattle.machine.specs.Machine.{piece}
-use Rattle.tags.specs.Tag.{Tag, flags}
 use Rattle.lent.specs.Slices.{grains, memoryOf, tagWords, nextAt, prevAt}
 use Rattle.lent.specs.TagWords.{count-fits}
 use Rattle.plans.specs.Checks.{mustFree, mustBe, seeFree}
 use Rattle.plans.specs.Checked.{whole-checked}
 use Rattle.plans.specs.Allocate.{seeFirst}
 use Rattle.entries.specs.Answers.{held, answer, told}
-use Rattle.entries.specs.declared.Found.{Found}
 use Rattle.entries.specs.declared.Found.the-variants.{Grains, Bad}
 use Rattle.entries.specs.Decides.{Decides, decided, decides-eq, decides-read, decides-then, decides-last}
 use Rattle.entries.specs.Agrees.{Begins}

@@ -1,8 +1,8 @@
 -- The search for a block, step by step: a list that is marked, its first block, and the head of the list that the rest enters.
 use Prim.Native.Nat.{ℕ, suc, _+_, _-_, _*_, _^_, _≤_, _<_}
 use native.Mathlib.Omega.{arith}
-use mathlib.Core.Path.{_≡_, refl, ap, sym, _∙_, subst}
-use mathlib.Core.Bool.{Bool, true, false}
+use mathlib.Core.Path.{_≡_, refl, ap, sym, _∙_}
+use mathlib.Core.Bool.{true, false}
 use mathlib.Core.List.{List}
 use Rattle.choice.specs.Choice.{eq-yes, eq-no}
 use Rattle.bits.specs.First.{firstSet, first-from, first-agree}
@@ -11,17 +11,15 @@ use Rattle.class.specs.Class.{listOf, startOf, floor, floor-at, floor-order, fl
 use Rattle.definition.specs.Calls.{wanted, place, keeps}
 use Rattle.invariants.specs.Placing.{keeps-wanted, wanted-some}
 use Rattle.script.specs.Memory.{Memory, Mark}
-use Rattle.script.specs.Script.{Script, Result, ok, no, done, run, _>>=_, _>>_, get, unlessLe, searches, reads, goes, halts, gives-done, gives-le, halts-le}
+use Rattle.script.specs.Script.{Script, ok, no, done, run, _>>=_, get, unlessLe, searches, reads, goes, halts, gives-done, gives-le, halts-le, _>>_}
 use Rattle.machine.specs.Machine.{classes, piece}
 use Rattle.machine.specs.Machine.{lists as listCount}
 use Rattle.chains.specs.Links.{Head}
-use Rattle.lent.specs.Slices.{grains, memoryOf, headAt}
+use Rattle.lent.specs.Slices.{grains, headAt}
 use Rattle.lent.specs.Fields.{memory-mark, memory-head}
-use Rattle.plans.specs.Checks.{seeFree, seeRest}
-use Rattle.plans.specs.Planned.{taken-checked}
+use Rattle.plans.specs.Checks.{seeRest}
 use Rattle.plans.specs.Allocate.{Taken, seeFirst, seeTaken}
 use Rattle.entries.specs.Answers.{slices, held, verdict, told}
-use Rattle.entries.specs.declared.Found.{Found}
 use Rattle.entries.specs.declared.Found.the-variants.{Grains, Bad}
 use Rattle.hand_out.specs.declared.Taking.{Taking}
 use Rattle.hand_out.specs.Answers.{takenOf, taking}

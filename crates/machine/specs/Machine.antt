@@ -34,15 +34,17 @@ mapWords = (lists + 8 * wordBytes - 1) / (8 * wordBytes)
 
 -- ---- the guard of a used block
 
--- A word of bytes 0xA5, and one of bytes 0xC3. Their bytes are no text, not 0 and not 0xFF.
+-- A word of bytes 0xA5, and one of bytes 0xC3. The bytes of these patterns are not ASCII text, not 0 and not 0xFF. A guard word
+-- has the block's offset added, so its low bytes may be others.
 abbrev pub firstPattern : ℕ
 firstPattern = 165 * ((words - 1) / 255)
 
 abbrev pub secondPattern : ℕ
 secondPattern = 195 * ((words - 1) / 255)
 
--- The two guard words of the block at grain x: each is its pattern plus the block's offset. They are not multiples of a
--- grain, and one less is no multiple either, so neither is 0 or all ones; and no two of them are the same.
+-- The two guard words of the block at grain x: each is its pattern plus the block's offset in bytes, cut to a word. It is no
+-- multiple of a grain, so it is not 0. With 1 added it is no multiple either, so it is not all ones. In an arena whose bytes a
+-- word can count, no two guard words are the same.
 unfoldable pub guardNext : ℕ → ℕ
 guardNext x = (firstPattern + grain * x) % words
 

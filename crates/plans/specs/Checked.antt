@@ -3,16 +3,16 @@ use Prim.Native.Nat.{ℕ, suc, _+_, _-_, _*_, _/_, _%_, _≤_, _<_}
 use native.Mathlib.Omega.{arith}
 use mathlib.Core.Path.{_≡_, refl, ap, sym, _∙_, subst}
 use mathlib.Core.Logic.{_⊎_, inl, inr, ⊎-elim}
-use Rattle.choice.specs.Choice.{ifEq, eq-yes, eq-no, same?}
+use Rattle.choice.specs.Choice.{ifEq}
 use Rattle.class.specs.Class.{listOf}
 use Rattle.script.specs.Memory.{Memory, Next, Prev, Mark}
-use Rattle.script.specs.Script.{Script, done, unlessEq, unlessLe, mustEq, mustLe, Gives, inv-bind, inv-get, inv-done, inv-eq, inv-le}
-use Rattle.sound.specs.Inverted.{inv-if-eq, inv-if-le}
+use Rattle.script.specs.Script.{unlessEq, unlessLe, mustEq, mustLe, Gives, inv-bind, inv-get, inv-done, inv-eq, inv-le}
+use Rattle.sound.specs.Inverted.{inv-if-eq}
 use Rattle.machine.specs.Machine.{guardNext, guardPrev}
 use Rattle.tags.specs.Tag.{Tag, flags, START, FREE, SMALL, LARGE, freeTag}
 use Rattle.chains.specs.Links.{Head}
 use Rattle.chains.specs.Closed.{Headed}
-use Rattle.plans.specs.Checks.{mustGrain, mustList, mustBe, mustBusy, mustFree, seeFree, oneIf, seeEntry, seeHead, seeGuard, Owner, owned, ownerSmall, ownerWide, ownerLarge, seeOwner, listed, freeAfter, seeAfter, freeBefore, seeBefore, seeRest, seeJoin}
+use Rattle.plans.specs.Checks.{mustGrain, mustList, mustBe, mustBusy, mustFree, seeFree, oneIf, seeEntry, seeHead, seeGuard, Owner, owned, ownerSmall, ownerWide, ownerLarge, seeOwner, freeAfter, seeAfter, freeBefore, seeBefore, seeRest, seeJoin}
 
 -- the tag of grain x says that a free block of s grains starts there
 pub record StartsFree (n : ℕ) (m : Memory) (x s : ℕ) : Type 0 where
@@ -39,6 +39,10 @@ pub record EntryChecked (n : ℕ) (m : Memory) (k y : ℕ) : Type 0 where
   pub prev-back : m Next (m Prev y) ≡ ifEq (m Prev y) y (m Next y) y
   pub mark : m Mark k ≡ 1
   pub head : oneIf (m Head k) y ≡ oneIf (m Prev y) y
+
+-- both words of the guard of the used block at x are what they should be
+abbrev pub GuardStands : Memory → ℕ → Type 0
+GuardStands m x = (m Next x ≡ guardNext x) × (m Prev x ≡ guardPrev x)
 
 module _ (m : Memory) where
   be-checked : (f x y : ℕ) {u : Unit {0}} → Gives m (mustBe f x y) u → m f x ≡ y
@@ -98,7 +102,7 @@ module _ (m : Memory) where
         (λ i. let a = inv-bind m (mustFree n (m Head k)) _ (i .1) in inr (a .0, free-checked (m Head k) (a .1)))
         (inv-if-eq m (m Mark k) 0 _ _ (inv-get m Head k _ (inv-get m Mark k _ h)))
 
-    pub guard-checked : (x : ℕ) {u : Unit {0}} → Gives m (seeGuard x) u → (m Next x ≡ guardNext x) × (m Prev x ≡ guardPrev x)
+    pub guard-checked : (x : ℕ) {u : Unit {0}} → Gives m (seeGuard x) u → GuardStands m x
     unfolding seeGuard
     guard-checked x h = let a = inv-bind m (mustBe Next x (guardNext x)) _ h in (be-checked Next x _ (a .1), be-checked Prev x _ (a .2))
 

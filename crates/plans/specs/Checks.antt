@@ -1,10 +1,10 @@
 -- The checks of the calls, on any memory. n is how many grains the arena has, c how many first-level classes there are. What
 -- contradicts is refused with 5; a payload that is not live with 3.
 use Prim.Native.Nat.{ℕ, suc, _+_, _-_, _*_, _/_, _%_}
-use Rattle.choice.specs.Choice.{ifEq, ifLe}
+use Rattle.choice.specs.Choice.{ifEq}
 use Rattle.class.specs.Class.{listOf}
 use Rattle.script.specs.Memory.{Next, Prev, Mark}
-use Rattle.script.specs.Script.{Script, done, stop, _>>=_, _>>_, get, unlessEq, unlessLe, mustEq, mustLe}
+use Rattle.script.specs.Script.{Script, done, _>>=_, _>>_, get, unlessEq, unlessLe, mustEq, mustLe}
 use Rattle.machine.specs.Machine.{guardNext, guardPrev}
 use Rattle.tags.specs.Tag.{Tag, flags, START, FREE, SMALL, LARGE, freeTag}
 use Rattle.chains.specs.Links.{Head}

@@ -1,13 +1,13 @@
 -- reallocate: the payload at q gets p half grains, at a multiple of a if it moves. Four steps are tried in this order: the
 -- block keeps its size; it stretches or shrinks in place; it moves down into a free block before it; it moves elsewhere.
 use Prim.Native.Nat.{ℕ, _+_, _-_, _*_}
-use mathlib.Core.List.{List, [], _∷_, _++_}
+use mathlib.Core.List.{[], _∷_, _++_}
 use Rattle.choice.specs.Choice.{ifEq, ifLe}
 use Rattle.definition.specs.Calls.{place, keeps}
 use Rattle.script.specs.Script.{Script, done, _>>=_, _>>_}
 use Rattle.tags.specs.Writes.{deallocateTags, stretchTags, downTags}
 use Rattle.plans.specs.Deeds.{Deed, Plan, planScript}
-use Rattle.plans.specs.Checks.{Owner, seeOwner, seeGuard, seeAfter, seeBefore, seeRest, seeJoin}
+use Rattle.plans.specs.Checks.{seeOwner, seeGuard, seeAfter, seeBefore, seeRest, seeJoin}
 use Rattle.plans.specs.Allocate.{restSteps, Taken, takenSteps, takenTags, seeTaken}
 use Rattle.plans.specs.Deallocate.{leaveSteps, besideSteps, joinSteps}
 
@@ -28,7 +28,7 @@ stretchDeed q x s d b k = record {
   records = stretchTags x s d b k;
 }
 
--- 3: down; the block starts at z afterwards, keeps k grains, and the payload's place in it is e
+-- 3: down; the block starts at x - a afterwards and keeps k grains, and the payload's place in it is e
 abbrev pub downDeed : ℕ → ℕ → ℕ → ℕ → ℕ → ℕ → ℕ → Deed
 downDeed x s d a b k e = record {
   answer = 2 * (x - a) + e;

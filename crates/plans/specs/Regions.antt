@@ -1,21 +1,22 @@
 -- insert and append: len grains from g on, in an arena of n grains, with a table that holds at most `most` regions. The table
 -- is read, then the heads of the lists that pieces enter are checked; after that the pieces are laid.
-use Prim.Native.Nat.{ℕ, zero, suc, _+_, _-_, _*_, _%_, _^_, min}
+use Prim.Native.Nat.{ℕ, zero, suc, _+_, _-_, _%_, _^_, min}
 use mathlib.Core.List.{List, [], _∷_, _++_}
 use Rattle.choice.specs.Choice.{ifEq, ifLe}
 use Rattle.class.specs.Class.{listOf}
 use Rattle.script.specs.Memory.{Table, Write}
 use Rattle.script.specs.Script.{Script, done, stop, _>>=_, _>>_, get, unlessLe, mustEq, mustLe}
-use Rattle.sound.specs.RegionPlan.{Looked, seeRegions, entryWrites}
+use Rattle.sound.specs.RegionPlan.{seeRegions, entryWrites}
 use Rattle.tags.specs.Writes.{pieceTags}
 use Rattle.chains.specs.Steps.{Step, enter}
 use Rattle.plans.specs.Deeds.{Deed, Plan, planScript}
 use Rattle.plans.specs.Checks.{seeHead}
 
--- the pieces of len grains at x, i of them at the most: their tags, their steps, and what is left over
+-- the first piece of len grains: all of them, or as many as the longest piece has
 abbrev pub pieceSize : ℕ → ℕ → ℕ
 pieceSize c len = min len (2 ^ c)
 
+-- the pieces of len grains at x, i of them at the most: their tags, their steps, and what is left over
 unfoldable pub layTags : ℕ → ℕ → ℕ → ℕ → List Write
 layTags c zero x len = []
 layTags c (suc i) x len = ifLe len 1 [] (pieceTags x (pieceSize c len) ++ layTags c i (x + pieceSize c len) (len - pieceSize c len))

@@ -1,34 +1,35 @@
 -- T4, deallocate: on a sound memory it does what the definition says.
-use Prim.Native.Nat.{ℕ, _+_, _-_, _*_, _≤_, _<_}
+use Prim.Native.Nat.{ℕ, _+_, _-_, _*_, _≤_}
 use native.Mathlib.Omega.{arith}
 use mathlib.Core.Path.{_≡_, refl, ap, sym, _∙_, subst}
-use mathlib.Core.List.{List, [], _∷_, _++_}
-use mathlib.Core.Logic.{_⊎_, inl, inr, ⊎-elim}
+use mathlib.Core.List.{List, _∷_, _++_}
+use mathlib.Core.Logic.{⊎-elim}
 use Rattle.class.specs.Class.{listOf}
-use Rattle.definition.specs.Blocks.{Block, free, used, total, _⟨⟩_, room, past}
+use Rattle.definition.specs.Blocks.{Block, used, total, _⟨⟩_, room, past}
 use Rattle.definition.specs.Lists.{Lists, push, skip}
-use Rattle.definition.specs.Calls.{Heap, notLive, Answer, refused, granted, join, giveBack}
+use Rattle.definition.specs.Calls.{Heap, join, giveBack}
 use Rattle.invariants.specs.Order.{BlockAt, at-here, stands-at}
 use Rattle.invariants.specs.Neighbours.{total-past, join-ok}
 use Rattle.invariants.specs.NotLive.{not-live-back}
 use Rattle.script.specs.Memory.{Memory}
-use Rattle.script.specs.Script.{Script, Gives, no, run, goes, halts, gives-bind}
-use Rattle.chains.specs.Steps.{stepsLists, lists-append, enter}
+use Rattle.script.specs.Script.{Gives, run, goes}
+use Rattle.chains.specs.Steps.{stepsLists, lists-append}
 use Rattle.chains.specs.Legal.{NotIn, Legal, legal-append}
 use Rattle.chains.specs.Closed.{ready-append}
-use Rattle.plans.specs.Deeds.{Plan, planOf, planScript}
-use Rattle.plans.specs.Checks.{Owner, seeOwner, seeGuard, seeAfter, seeBefore, seeJoin}
+use Rattle.plans.specs.Deeds.{planOf, planScript}
+use Rattle.plans.specs.Checks.{seeOwner, seeGuard, seeAfter, seeBefore, seeJoin}
 use Rattle.plans.specs.Checked.{join-checked}
 use Rattle.plans.specs.Planned.{plan-gives}
 use Rattle.plans.specs.Deallocate.{besideSteps, joinSteps, deallocateDeed, deallocateScript}
-use Rattle.armour.specs.Row.{Row, Sound}
+use Rattle.armour.specs.Row.{Sound}
 use Rattle.armour.specs.Turns.{linkBounds}
 use Rattle.armour.specs.Known.{headed-known, Beside, after-known, before-known, whole-block}
 use Rattle.armour.specs.Changed.{join-ready}
 use Rattle.armour.specs.Deallocates.{return-defined, return-turns, joined-free, beside-ready}
+use Rattle.armour.specs.Dead.{deallocate-dead}
 use Rattle.refines.specs.Sounds.{Grants, Meets, sound-after}
 use Rattle.refines.specs.Seen.{sound-ok, join-gives, guard-gives}
-use Rattle.refines.specs.SeenOwner.{owner-gives, owner-refused, live?}
+use Rattle.refines.specs.SeenOwner.{owner-gives, live?}
 use Rattle.refines.specs.SeenBeside.{after-gives, before-gives, around-short}
 use Rattle.refines.specs.Listed.{both-lists, both-legal, both-none}
 
@@ -105,16 +106,11 @@ module _ (n c : ℕ) (m : Memory) (f : Lists) (l r : List Block) (s d : ℕ) (o 
         sound = g .sound;
       }
 
--- refused where no payload is live
-deallocate-halts : (n c q : ℕ) (m : Memory) → run m (seeOwner n q) ≡ no 3 → run m (deallocateScript n c q) ≡ no 3
-unfolding deallocateScript
-deallocate-halts n c q m e = halts m (seeOwner n q) _ e
-
 pub deallocate-meets : (n c : ℕ) (m : Memory) (h : Heap) → Sound n c m h → (q : ℕ) → Meets n c m (deallocateScript n c q) (giveBack h q)
 deallocate-meets n c m h o q = ⊎-elim
     (λ (b : (x : ℕ) × (s : ℕ) × (d : ℕ) × BlockAt x (used s d) 0 (h .blocks) × (q ≡ 2 * x + d)). live (b .0) (b .1) (b .2) (b .3) (b .4))
     (λ (e : (x s d : ℕ) → BlockAt x (used s d) 0 (h .blocks) → q ≡ 2 * x + d → ⊥). subst (Meets n c m (deallocateScript n c q)) (sym (not-live-back h q e))
-    (deallocate-halts n c q m (owner-refused n c m (h .blocks) (o .row) q e)))
+    (deallocate-dead n c m (h .blocks) (o .row) q e))
     (live? q (h .blocks))
   where
     there : (l r : List Block) (s d : ℕ) → h .blocks ≡ l ⟨⟩ used s d ∷ r → Meets n c m (deallocateScript n c (2 * total l + d)) (giveBack h (2 * total l + d))

@@ -2,6 +2,7 @@
 pub mod Sounds
 pub mod Seen
 pub mod SeenOwner
+pub mod Broken
 pub mod SeenBeside
 pub mod SeenTaken
 pub mod Listed

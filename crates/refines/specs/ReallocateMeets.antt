@@ -3,47 +3,35 @@ use Prim.Native.Nat.{ℕ, _+_, _-_, _*_, _^_, _≤_, _<_}
 use native.Mathlib.Omega.{arith}
 use mathlib.Core.Path.{_≡_, refl, ap, sym, _∙_, subst}
 use mathlib.Core.List.{List, [], _∷_, _++_}
-use mathlib.Core.Logic.{_⊎_, inl, inr, ⊎-elim}
-use Rattle.choice.specs.Choice.{ifEq, ifLe, eq-yes, eq-no, le?, le-yes, le-no, same?}
-use Rattle.class.specs.Class.{listOf, startOf}
-use Rattle.definition.specs.Blocks.{Block, free, used, total, _⟨⟩_, room, past}
-use Rattle.definition.specs.Lists.{Lists, drop, skip, Found, nothing, found}
-use Rattle.definition.specs.Calls.{Heap, noList, notLive, Answer, refused, granted, wanted, place, keeps, leave as leaveRest, take, takeAt, backAfter, elsewhere, resize}
-use Rattle.invariants.specs.Order.{Inside, BlockAt, at-here, stands-at, order-split}
+use Rattle.choice.specs.Choice.{ifLe, le-yes}
+use Rattle.class.specs.Class.{listOf}
+use Rattle.definition.specs.Blocks.{Block, used, total, _⟨⟩_, room, past}
+use Rattle.definition.specs.Lists.{Lists, skip}
+use Rattle.definition.specs.Calls.{Heap, Answer, refused, granted, place, keeps, leave as leaveRest}
+use Rattle.invariants.specs.Order.{Inside, order-split}
 use Rattle.invariants.specs.Moves.{Ok}
 use Rattle.invariants.specs.Neighbours.{total-past, order-past, swallow-behind, swallow, leave-ok}
-use Rattle.invariants.specs.NotLive.{not-live-resize}
 use Rattle.invariants.specs.Placing.{Align, align-pos, place-some, keeps-some, keeps-holds, place-inside}
-use Rattle.invariants.specs.Promises.{search-empty, Took, sought, take-found, refused-exactly}
 use Rattle.script.specs.Memory.{Memory}
-use Rattle.script.specs.Script.{Script, done, _>>=_, ok, no, run, Gives, goes, halts, gives-bind, gives-done}
+use Rattle.script.specs.Script.{Script, done, _>>=_, no, run, Gives, gives-bind, gives-done}
 use Rattle.chains.specs.Steps.{Step, stepsLists, lists-append}
 use Rattle.chains.specs.Legal.{Legal, legal-append}
-use Rattle.chains.specs.Closed.{ready-append}
-use Rattle.plans.specs.Deeds.{Deed, Plan, planOf, planScript, after}
-use Rattle.plans.specs.Checks.{seeOwner, seeGuard, seeAfter, seeBefore, seeRest, seeJoin}
+use Rattle.plans.specs.Deeds.{Deed, planOf, after}
+use Rattle.plans.specs.Checks.{seeRest}
 use Rattle.plans.specs.Checked.{rest-checked}
-use Rattle.plans.specs.Planned.{plan-gives}
-use Rattle.plans.specs.Allocate.{restSteps, seeTaken}
+use Rattle.plans.specs.Allocate.{restSteps}
 use Rattle.plans.specs.Deallocate.{leaveSteps, besideSteps}
-use Rattle.plans.specs.Reallocate.{stayDeed, stretchDeed, downDeed, elsewhereDeed, elsewhereScript, downScript, moveScript, stretchScript, resizeScript, reallocateScript}
-use Rattle.armour.specs.Row.{Row, Sound}
-use Rattle.armour.specs.Turns.{linkBounds, Turns}
+use Rattle.plans.specs.Reallocate.{stayDeed, stretchDeed, downDeed, elsewhereScript, downScript, stretchScript}
+use Rattle.armour.specs.Row.{Sound}
 use Rattle.armour.specs.Known.{headed-known, whole-block}
-use Rattle.armour.specs.Apart.{Cramped}
-use Rattle.armour.specs.Allocates.{firstAt, handed}
-use Rattle.armour.specs.InPlace.{stay-turns, stay-defined, stretched, stretch-defined, lowered, down-defined, elsewhere-defined}
+use Rattle.armour.specs.InPlace.{stay-turns}
 use Rattle.armour.specs.Resizes.{Both, Rests}
 use Rattle.armour.specs.Reallocates.{stretch-turned, down-turned}
-use Rattle.refines.specs.Sounds.{number, Grants, Meets, sound-after}
-use Rattle.refines.specs.Seen.{sound-ok, rest-gives, guard-gives}
-use Rattle.refines.specs.SeenOwner.{owner-gives, owner-refused, live?}
-use Rattle.refines.specs.SeenBeside.{after-gives, before-gives, around-short}
-use Rattle.refines.specs.SeenTaken.{taken-refused}
+use Rattle.refines.specs.Sounds.{number, sound-after}
+use Rattle.refines.specs.Seen.{sound-ok, rest-gives}
+use Rattle.refines.specs.SeenBeside.{around-short}
 use Rattle.refines.specs.Listed.{after-lists, after-legal, after-none, both-lists, both-legal, both-none, rest-lists, rest-legal}
-use Rattle.refines.specs.AllocateMeets.{taken-here}
-use Rattle.refines.specs.DeallocateMeets.{Here, seen-after, seen-before, joins}
-use Rattle.refines.specs.ElsewhereMeets.{Away, away-meets}
+use Rattle.refines.specs.DeallocateMeets.{Here, seen-after, seen-before}
 
 -- a script that finds a deed, whose plan leaves the memory sound for what the definition grants
 pub record Deeds (n c : ℕ) (m : Memory) (s : Script Deed) (v : ℕ) (g : Heap) : Type 0 where

@@ -2,7 +2,7 @@
 use Prim.Native.Nat.{ℕ, _+_, _-_, _*_, _≤_, _<_}
 use native.Mathlib.Omega.{arith}
 use mathlib.Core.Path.{_≡_, refl, ap, sym, _∙_, subst}
-use mathlib.Core.List.{List, [], _∷_}
+use mathlib.Core.List.{List, _∷_}
 use mathlib.Core.Logic.{_⊎_, inl, inr, ⊎-elim}
 use Rattle.choice.specs.Choice.{ifEq, eq-yes, eq-no, le?, le-no, same?}
 use Rattle.class.specs.Class.{listOf, startOf}
@@ -14,7 +14,7 @@ use Rattle.invariants.specs.Moves.{Ok}
 use Rattle.invariants.specs.Neighbours.{total-past}
 use Rattle.invariants.specs.NotLive.{not-live-resize}
 use Rattle.invariants.specs.Placing.{Align}
-use Rattle.invariants.specs.Promises.{search-empty, Took, sought, take-found, refused-exactly}
+use Rattle.invariants.specs.Promises.{search-empty, sought, take-found, refused-exactly}
 use Rattle.script.specs.Memory.{Memory}
 use Rattle.script.specs.Script.{Script, done, _>>=_, no, run, goes, halts, gives-bind, gives-done}
 use Rattle.plans.specs.Deeds.{Deed, planOf, planScript}
@@ -25,16 +25,17 @@ use Rattle.plans.specs.Reallocate.{stayDeed, elsewhereDeed, elsewhereScript, do
 use Rattle.armour.specs.Row.{Sound}
 use Rattle.armour.specs.Apart.{Cramped}
 use Rattle.armour.specs.Allocates.{firstAt}
+use Rattle.armour.specs.Dead.{reallocate-dead}
 use Rattle.armour.specs.InPlace.{stay-defined, stretch-defined, down-defined, elsewhere-defined}
-use Rattle.refines.specs.Sounds.{Grants, Meets}
+use Rattle.refines.specs.Sounds.{Meets}
 use Rattle.refines.specs.Seen.{sound-ok, guard-gives}
-use Rattle.refines.specs.SeenOwner.{owner-gives, owner-refused, live?}
+use Rattle.refines.specs.SeenOwner.{owner-gives, live?}
 use Rattle.refines.specs.SeenBeside.{after-gives, before-gives}
 use Rattle.refines.specs.SeenTaken.{taken-refused}
 use Rattle.refines.specs.AllocateMeets.{taken-here}
 use Rattle.refines.specs.DeallocateMeets.{Here, joins}
-use Rattle.refines.specs.ElsewhereMeets.{Away, away-meets}
-use Rattle.refines.specs.ReallocateMeets.{Deeds, Finds, finds-as, stay-finds, stretch-finds, down-finds}
+use Rattle.refines.specs.ElsewhereMeets.{away-meets}
+use Rattle.refines.specs.ReallocateMeets.{Finds, finds-as, stay-finds, stretch-finds, down-finds}
 
 -- ---- 4
 
@@ -168,16 +169,11 @@ module _ (n c p a : ℕ) (m : Memory) (f : Lists) (l r : List Block) (s d : ℕ)
   pub live-meets : Meets n c m (reallocateScript n c (2 * total l + d) p a) (resize c (Here f l r s d) (2 * total l + d) p a)
   live-meets = meets (resize c (Here f l r s d) (2 * total l + d) p a) resize-finds
 
--- refused where no payload is live
-reallocate-halts : (n c q p a : ℕ) (m : Memory) → run m (seeOwner n q) ≡ no 3 → run m (reallocateScript n c q p a) ≡ no 3
-unfolding reallocateScript
-reallocate-halts n c q p a m e = halts m (seeOwner n q) _ e
-
 pub reallocate-meets : (n c p a : ℕ) (m : Memory) (h : Heap) → Align a → Sound n c m h → (q : ℕ) → Meets n c m (reallocateScript n c q p a) (resize c h q p a)
 reallocate-meets n c p a m h al o q = ⊎-elim
     (λ (b : (x : ℕ) × (s : ℕ) × (d : ℕ) × BlockAt x (used s d) 0 (h .blocks) × (q ≡ 2 * x + d)). live (b .0) (b .1) (b .2) (b .3) (b .4))
     (λ (e : (x s d : ℕ) → BlockAt x (used s d) 0 (h .blocks) → q ≡ 2 * x + d → ⊥). subst (Meets n c m (reallocateScript n c q p a)) (sym (not-live-resize c h q p a e))
-    (reallocate-halts n c q p a m (owner-refused n c m (h .blocks) (o .row) q e)))
+    (reallocate-dead n c m (h .blocks) (o .row) q e p a))
     (live? q (h .blocks))
   where
     there : (l r : List Block) (s d : ℕ) → h .blocks ≡ l ⟨⟩ used s d ∷ r → Meets n c m (reallocateScript n c (2 * total l + d) p a) (resize c h (2 * total l + d) p a)

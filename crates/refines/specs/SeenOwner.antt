@@ -1,25 +1,24 @@
--- The block of a payload: the tags tell it, whatever stands in the arena and in the lists. A payload that is not live is
--- refused with 3, and no other is.
-use Prim.Native.Nat.{ℕ, suc, _+_, _-_, _*_, _/_, _%_, _≤_, _<_}
+-- The block of a live payload: the tags tell it, whatever stands in the arena and in the lists. And each payload is live or
+-- not. That one which is not live is refused is in armour, Dead.
+use Prim.Native.Nat.{ℕ, suc, _+_, _-_, _*_, _/_, _%_, _≤_}
 use native.Mathlib.Omega.{arith}
 use mathlib.Core.Path.{_≡_, refl, ap, _∙_, subst}
 use mathlib.Core.List.{List, [], _∷_}
 use mathlib.Core.Logic.{_⊎_, inl, inr, ⊎-elim}
-use Rattle.choice.specs.Choice.{ifEq, eq-yes, eq-no, eq-case, same?, le?}
+use Rattle.choice.specs.Choice.{ifEq, eq-yes, eq-no, same?}
 use Rattle.definition.specs.Blocks.{Block, free, used, last, gap, size}
 use Rattle.invariants.specs.Order.{out, Whole, Inside, BlockAt, at-whole}
 use Rattle.script.specs.Memory.{Memory}
-use Rattle.script.specs.Script.{Script, done, unlessEq, unlessLe, mustEq, mustLe, run, no, Gives, gives-bind, gives-get, gives-eq, gives-le, gives-done, goes, reads, halts, halts-eq, halts-le}
+use Rattle.script.specs.Script.{done, unlessEq, unlessLe, mustEq, mustLe, run, Gives, gives-bind, gives-get, gives-eq, gives-le, gives-done}
 use Rattle.sound.specs.Swaps.{used-place}
 use Rattle.tags.specs.Tag.{Tag, flags, START, SMALL, LARGE, smallTag, largeTag, startTag, padTag}
-use Rattle.tags.specs.Decode.{first-small, first-large, first-wide, pad-tag, small-here, large-here, pad-here}
+use Rattle.tags.specs.Decode.{first-small, first-large, first-wide, pad-tag}
 use Rattle.plans.specs.Checks.{mustGrain, Owner, owned, ownerSmall, ownerLarge, seeOwner}
 use Rattle.armour.specs.Row.{Row}
+pub use Rattle.armour.specs.Dead.{owner-refused}
 use Rattle.refines.specs.Seen.{gives-grain, used-inside}
 
 module _ (n c : ℕ) (m : Memory) (xs : List Block) (o : Row n c m xs) where
-  -- ---- a live payload leads to its block
-
   module _ (x s d : ℕ) (b : BlockAt x (used s d) 0 xs) where
     -- v grains at y, of which p are padding
     owned-gives : (y v p : ℕ) → y ≡ x → v ≡ s → 1 ≤ s → p ≤ s → Gives m (owned n y v p) (record { at = x; grains = s })
@@ -81,31 +80,6 @@ module _ (n c : ℕ) (m : Memory) (xs : List Block) (o : Row n c m xs) where
         go h i (inr e) =
             let y : x + d / 2 ≡ (2 * x + d) / 2 = omega arith in
             ap (run m) (eq-no ((2 * x + d) % 2) 1 _ _ (omega arith)) ∙ subst (λ (u : ℕ). Gives m (ownerLarge n u) (record { at = x; grains = s })) y (at-grain h i e)
-
-  -- ---- what is not live is refused with 3
-
-  module _ (q : ℕ) (dead : (x s d : ℕ) → BlockAt x (used s d) 0 xs → q ≡ 2 * x + d → ⊥) (low : q < 2 * n) where
-    small-refused : q % 2 ≡ 1 → run m (ownerSmall n (q / 2)) ≡ no 3
-    small-refused e = reads m Tag (q / 2) _ refl ∙ halts m (unlessEq 3 (m Tag (q / 2) % flags) (START + SMALL)) _
-        (halts-eq m 3 _ _ (λ v. dead (q / 2) _ 1 (small-here (m Tag) xs (o .order) (o .tags) (q / 2) (omega (arith, o .whole)) v) (omega arith)))
-
-    large-refused : (q % 2 ≡ 1 → ⊥) → run m (ownerLarge n (q / 2)) ≡ no 3
-    large-refused e = ⊎-elim
-        (λ (some : 1 ≤ q / 2). goes m (unlessLe 3 1 (q / 2)) _ (gives-le m 3 _ _ some) ∙ reads m Tag (q / 2 - 1) _ refl
-        ∙ ap (run m) (eq-no (m Tag (q / 2 - 1) % flags) (START + LARGE) _ _
-        (λ v. dead (q / 2 - 1) _ 2 (large-here (m Tag) xs (o .order) (o .tags) (q / 2 - 1) (omega (arith, o .whole)) v) (omega (arith, e))))
-        ∙ halts m (unlessEq 3 (m Tag (q / 2 - 1) % flags) LARGE) _ (halts-eq m 3 _ _
-        (λ v. let h = pad-here (m Tag) xs (o .order) (o .tags) (q / 2 - 1) (omega (arith, o .whole)) v in dead (h .0) _ _ (h .1) (omega (arith, h .2, e)))))
-        (λ (none : q / 2 < 1). halts m (unlessLe 3 1 (q / 2)) _ (halts-le m 3 _ _ none))
-        (le? 1 (q / 2))
-
-  pub owner-refused : (q : ℕ) → ((x s d : ℕ) → BlockAt x (used s d) 0 xs → q ≡ 2 * x + d → ⊥) → run m (seeOwner n q) ≡ no 3
-  unfolding seeOwner
-  owner-refused q dead = ⊎-elim
-      (λ (low : suc q ≤ 2 * n). goes m (unlessLe 3 (suc q) (2 * n)) _ (gives-le m 3 _ _ low)
-      ∙ eq-case (λ (t : Script Owner). run m t ≡ no 3) (q % 2) 1 _ _ (small-refused q dead low) (large-refused q dead low))
-      (λ (high : 2 * n < suc q). halts m (unlessLe 3 (suc q) (2 * n)) _ (halts-le m 3 _ _ high))
-      (le? (suc q) (2 * n))
 
 -- ---- a payload is live or not
 

@@ -24,7 +24,7 @@ use Rattle.sound.specs.Meets.{number, Meets, refused-1}
 use Rattle.sound.specs.ResizeSound.{resize-meets}
 
 -- an answer that is refused for want of a list, if at all
-abbrev OnlyNoList : Answer → Type 0
+abbrev pub OnlyNoList : Answer → Type 0
 OnlyNoList w = (v : Refusal) → w ≡ refused v → v ≡ noList
 
 -- a granted one is
@@ -56,7 +56,7 @@ module _ (c : ℕ) (h : Heap) (x s d p a : ℕ) (o : Ok c h) (al : Align a) (b :
       (λ _. le-case OnlyNoList (keeps (place a (total (past l))) p) (room l + (s + room r)) _ _ (λ _. granted-only _ _) (λ _. elsewhere-only))
 
   -- all four steps
-  resize-only : OnlyNoList (resize c h (2 * x + d) p a)
+  pub resize-only : OnlyNoList (resize c h (2 * x + d) p a)
   unfolding resizeAt
   resize-only = subst OnlyNoList (sym (live-resize h x s d b (o .order) c p a))
       (eq-case OnlyNoList (keeps d p) s _ _ (λ _. granted-only _ _)

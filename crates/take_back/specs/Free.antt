@@ -20,7 +20,7 @@ use Rattle.lent.specs.Shown.{grains-below}
 use Rattle.stamps.specs.Bounds.{CanDeallocate}
 use Rattle.stamps.specs.Stores.{tagStores}
 use Rattle.entries.specs.Answers.{held, Enough}
-use Rattle.deeds.specs.Runs.{Blocks, Runs, CanRun, blocks-append, can-any, shown-lists, run-left}
+use Rattle.deeds.specs.Runs.{Runs, CanRun, blocks-append, can-any, shown-lists, run-left}
 use Rattle.deeds.specs.Maybe.{leave-blocks}
 use Rattle.deeds.specs.Does.{Does}
 use Rattle.deeds.specs.Done.{deed-done}

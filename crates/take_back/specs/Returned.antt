@@ -4,7 +4,7 @@ use mathlib.Core.Path.{_≡_, refl, sym, _∙_}
 use Rattle.script.specs.Memory.{Memory}
 use Rattle.script.specs.Script.{Script, ok, no, read, first, done, stop, run, _>>=_, _>>_, goes, halts, alike}
 use Rattle.plans.specs.Deeds.{Deed, Plan, planOf, planScript}
-use Rattle.plans.specs.Checks.{Owner, seeOwner, seeGuard, seeAfter, seeBefore, seeJoin}
+use Rattle.plans.specs.Checks.{seeOwner, seeGuard, seeAfter, seeBefore, seeJoin}
 use Rattle.plans.specs.Planned.{plan-gives}
 use Rattle.plans.specs.Deallocate.{deallocateDeed, deallocateScript}
 

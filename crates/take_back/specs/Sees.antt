@@ -3,17 +3,16 @@ use Prim.Native.Nat.{ℕ, _+_, _≤_, _<_}
 use native.Mathlib.Omega.{arith}
 use mathlib.Core.Path.{_≡_, _∙_}
 use mathlib.Core.Bool.{true, false}
-use mathlib.Core.List.{List}
 use Rattle.script.specs.Memory.{Memory}
 use Rattle.script.specs.Script.{ok, no, run, goes, halts, gives-done}
 use Rattle.machine.specs.Machine.{classes}
-use Rattle.plans.specs.Checks.{Owner, seeOwner, seeGuard, seeAfter, seeBefore, seeJoin}
+use Rattle.plans.specs.Checks.{seeOwner, seeGuard, seeAfter, seeBefore, seeJoin}
 use Rattle.plans.specs.Checked.{owner-checked}
 use Rattle.plans.specs.StorableParts.{after-ready, before-ready}
 use Rattle.machine.specs.Machine.{words}
 use Rattle.lent.specs.Slices.{grains}
-use Rattle.entries.specs.Answers.{held, verdict}
-use Rattle.take_back.specs.Returned.{Freed, joined, sides, seeReturned}
+use Rattle.entries.specs.Answers.{verdict}
+use Rattle.take_back.specs.Returned.{joined, sides, seeReturned}
 
 module _ (m : Memory) (n : ℕ) where
   -- ---- the payload's block

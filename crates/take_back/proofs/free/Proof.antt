@@ -1,9 +1,8 @@
 -- `take_back::free`: the steps and the tags are all of the deed.
-use Prim.Native.Nat.{ℕ, _+_, _-_}
+use Prim.Native.Nat.{ℕ, _-_}
 use native.Mathlib.Omega.{arith}
-use mathlib.Core.Path.{_≡_, sym, _∙_, subst}
+use mathlib.Core.Path.{sym, subst}
 use mathlib.Core.List.{List, [], _∷_}
-use Rattle.class.specs.Class.{listOf}
 use Rattle.chains.specs.Steps.{Step, enter}
 use Rattle.plans.specs.Deallocate.{besideSteps, joinSteps}
 use Rattle.deeds.specs.Runs.{Runs, CanRun, can-enter, run-left, run-right, runs-none, runs-then}
