@@ -21,7 +21,7 @@ abbrev pub guarded : List ℕ → List ℕ → List ℕ
 guarded a [] = a
 guarded a (x ∷ l) = guarded (guard a x) l
 
-guards-stored : (a ls t g l : List ℕ) → slices (guarded a l) ls t g ≡ stores (slices a ls t g) (guardWrites l)
+pub guards-stored : (a ls t g l : List ℕ) → slices (guarded a l) ls t g ≡ stores (slices a ls t g) (guardWrites l)
 guards-stored a ls t g [] = refl
 guards-stored a ls t g (x ∷ l) = guards-stored (guard a x) ls t g l
 

@@ -4,3 +4,4 @@ pub mod Runs
 pub mod Maybe
 pub mod Does
 pub mod Done
+pub mod Moves

@@ -1,0 +1,3 @@
+// Definitions and laws alone, in specs/.
+
+pub fn nothing() {}
