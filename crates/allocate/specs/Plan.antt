@@ -1,6 +1,6 @@
 -- What a plan of a take says: the writes, spelled from its numbers, or a refusal; and that this is what the script of a
 -- take answers. Each law is one return of the code.
-use Prim.Native.Nat.{ℕ, zero, suc, _+_, _-_, _*_, _/_, _^_, _≤_, _<_}
+use Prim.Native.Nat.{ℕ, suc, _+_, _-_, _*_, _/_, _≤_, _<_}
 use native.Mathlib.Omega.{arith}
 use mathlib.Core.Path.{_≡_, refl, ap, sym, _∙_, subst}
 use mathlib.Core.Bool.{Bool, true, false}
@@ -9,7 +9,7 @@ use mathlib.Core.Logic.{inl, inr}
 use lib.ListN.{length}
 use Rattle.bits.specs.First.{firstSet, first-from, first-agree}
 use Rattle.bits.specs.Map.{lists, mapBit}
-use Rattle.class.specs.Class.{startOf, floor, floor-at, floor-lt, floor-order, start-enough, start-fits}
+use Rattle.class.specs.Class.{startOf, start-fits, start-large}
 use Rattle.definition.specs.Calls.{wanted, place, keeps}
 use Rattle.invariants.specs.Placing.{place-some, keeps-wanted}
 use Rattle.script.specs.Memory.{Live, Mark, Prev, none, Write, _at_≔_}
@@ -147,13 +147,6 @@ cut-made a l k y s x p u d m o c h g f t i j e q w b = record {
 
 -- ---- the search
 
--- a search for 2 ^ n grains or more starts behind the lists of n classes
-pub start-large : (s n : ℕ) → 0 < s → 2 ^ n ≤ s → 16 * n ≤ startOf s
-start-large s n h l =
-    let e : floor (16 * n) ≡ 16 * 2 ^ n = ap floor (omega arith) ∙ floor-at n 0 (omega arith) in
-    let p = floor-order (16 * n) (startOf s + 1) (omega (arith, e, start-enough s h, floor-lt (startOf s) (startOf s + 1) (omega arith))) in
-    omega arith
-
 -- what is searched: the lists from k on
 abbrev found : List ℕ → ℕ → ℕ
 found l k = firstSet (mapBit l) (lists - k) k
@@ -212,10 +205,6 @@ module _ (a l : List ℕ) (p u c k : ℕ) (startIs : c ≡ startOf (wanted p u))
     plan-enough i b =
         let j = w .inside b in
         start-fits (wanted p u) (o .grains) i (j .1) (omega (arith, j .2, startIs, listIs, first-from (mapBit l) (lists - c) c))
-
--- what is wanted, as the code counts it
-pub wanted-counted : (p u : ℕ) → 0 < u → (p + u - 1) / 2 + 1 ≡ wanted p u
-wanted-counted p u h = omega arith
 
 -- so much is wanted that no list has it
 pub plan-large : (a l : List ℕ) (p u w : ℕ) (r : Plan) → Refuses 1 r → w ≡ wanted p u → 4096 ≤ w → Plans a l p u r

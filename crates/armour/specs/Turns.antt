@@ -69,7 +69,7 @@ record-field : (i : ℕ) → (Tag ≡ i) ⊎ (Table ≡ i) → Else i
 record-field i (inl e) = record { next = omega arith; prev = omega arith; head = omega arith; mark = omega arith }
 record-field i (inr e) = record { next = omega arith; prev = omega arith; head = omega arith; mark = omega arith }
 
-guards-rest : (i : ℕ) → Else i → (l : List ℕ) → Untouched i (guardWrites l)
+pub guards-rest : (i : ℕ) → Else i → (l : List ℕ) → Untouched i (guardWrites l)
 guards-rest i e [] = tt
 guards-rest i e (x ∷ l) = (e .next, (e .prev, guards-rest i e l))
 

@@ -3,4 +3,4 @@
 pub mod Answers
 pub mod Owns
 pub mod Sides
-pub mod Leaving
+pub mod Holds

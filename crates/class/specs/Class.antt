@@ -200,6 +200,13 @@ list-large s n h l =
 pub start-fits : (s t : ℕ) → 0 < s → 0 < t → startOf s ≤ listOf t → s ≤ t
 start-fits s t h k l = omega (arith, start-enough s h, floor-mono (startOf s) (listOf t) l, list-low t k)
 
+-- a search for 2 ^ n grains or more starts after the lists of n classes
+pub start-large : (s n : ℕ) → 0 < s → 2 ^ n ≤ s → 16 * n ≤ startOf s
+start-large s n h l =
+    let e : floor (16 * n) ≡ 16 * 2 ^ n = ap floor (omega arith) ∙ floor-at n 0 (omega arith) in
+    let p = floor-order (16 * n) (startOf s + 1) (omega (arith, e, start-enough s h, floor-lt (startOf s) (startOf s + 1) (omega arith))) in
+    omega arith
+
 -- good fit: a block of 17/16 of the size or more is in a list that the search looks at
 pub good-fit : (s t : ℕ) → 0 < s → 17 * s ≤ 16 * t → startOf s ≤ listOf t
 good-fit s t h l =

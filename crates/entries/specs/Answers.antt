@@ -1,9 +1,12 @@
 -- What the contracts speak of: the lent slices read as a memory (`held`), answers read as results of a script, and how long
 -- the slices must be (`Enough`).
 use Prim.Native.Nat.{ℕ, _+_, _≤_, _<_}
+use native.Mathlib.Omega.{arith}
+use mathlib.Core.Path.{_≡_, ap, sym, _∙_}
 use mathlib.Core.Bool.{Bool, true, false}
 use mathlib.Core.List.{List}
 use lib.ListN.{length}
+use Rattle.choice.specs.Choice.{ifEq, eq-yes, eq-no}
 use Rattle.script.specs.Memory.{Memory}
 use Rattle.script.specs.Script.{Result, ok, no}
 use Rattle.machine.specs.Machine.{mapWords}
@@ -45,6 +48,16 @@ verdict r = answer r (tt {0})
 abbrev pub told : Found → Result ℕ
 told (Grains s) = ok s
 told Bad = no 5
+
+-- x where the refusal i is 0, as a struct says it
+abbrev pub unlessRefused : {A : Type 0} → ℕ → A → Result A
+unlessRefused i x = ifEq i 0 (ok x) (no i)
+
+pub refused-is : {A : Type 0} (i r : ℕ) (x : A) → 0 < i → r ≡ i → no i ≡ unlessRefused r x
+refused-is i r x h e = ap no (sym e) ∙ sym (eq-no r 0 (ok x) (no r) (λ z. omega (arith, e)))
+
+pub granted-is : {A : Type 0} (r : ℕ) (x : A) → r ≡ 0 → ok x ≡ unlessRefused r x
+granted-is r x e = sym (eq-yes r 0 (ok x) (no r) e)
 
 -- ---- choices
 

@@ -1,20 +1,14 @@
 -- What leaving and entering a list makes of the arena and of the lists (`Stepped`): what is stored for the step's writes.
--- And what the checks tell of the words that a step writes through.
+-- And what must be known of the words that a step writes through.
 use Prim.Native.Nat.{ℕ, _<_}
-use native.Mathlib.Omega.{arith}
 use mathlib.Core.Path.{_≡_, _∙_}
 use mathlib.Core.List.{List}
-use mathlib.Core.Bool.{true}
-use mathlib.Core.Logic.{⊎-elim}
 use Rattle.choice.specs.Choice.{ifEq}
 use Rattle.bits.specs.Map.{mapBit}
-use Rattle.script.specs.Script.{run}
 use Rattle.chains.specs.Links.{markLeft, nextOf}
 use Rattle.chains.specs.Steps.{Step, leave, enter, stepWrites}
-use Rattle.plans.specs.Checks.{seeEntry, seeHead}
-use Rattle.plans.specs.Checked.{EntryChecked, entry-checked, head-checked}
 use Rattle.lent.specs.Slices.{grains, nextAt, prevAt, putNext, putPrev, headAt, putHead, putMark, memoryOf, stores}
-use Rattle.entries.specs.Answers.{slices, held, verdict}
+use Rattle.entries.specs.Answers.{slices, held}
 
 -- ---- one step
 
@@ -55,7 +49,7 @@ pub entered : {a l b d : List ℕ} (k y h : ℕ) → h ≡ nextOf y (mapBit l k)
     → d ≡ putMark (putHead l k y) k 1 → Stepped (enter k y) a l b d
 entered k y h e u v = record { arena = u ∙ rw e; lists = v }
 
--- ---- what is checked before it
+-- ---- what must be known before it
 
 -- the words of a block that leaves are grains
 pub record Leaves (a : List ℕ) (y : ℕ) : Type 0 where
@@ -65,15 +59,3 @@ pub record Leaves (a : List ℕ) (y : ℕ) : Type 0 where
 -- a list that a block enters has no mark, or its head is a grain
 abbrev pub Enters : List ℕ → List ℕ → ℕ → Type 0
 Enters a l k = mapBit l k ≡ 1 → headAt l k < grains a
-
-module _ (a l t g : List ℕ) where
-  pub checked-leaves : (k y : ℕ) → EntryChecked (grains a) (held a l t g) k y → Leaves a y
-  unfolding memoryOf
-  checked-leaves k y e = record { next = e .next .1 .inside; prev = e .prev .1 .inside }
-
-  pub entry-leaves : (k y : ℕ) → run (held a l t g) (seeEntry (grains a) k y) ≡ verdict true → Leaves a y
-  entry-leaves k y h = checked-leaves k y (entry-checked (held a l t g) (grains a) k y h)
-
-  pub head-enters : (k : ℕ) → run (held a l t g) (seeHead (grains a) k) ≡ verdict true → Enters a l k
-  unfolding memoryOf
-  head-enters k h e = ⊎-elim (λ z. absurd (omega (arith, z))) (λ f. f .1 .inside) (head-checked (held a l t g) (grains a) k h)

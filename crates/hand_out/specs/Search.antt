@@ -1,13 +1,12 @@
 -- The search for a block, step by step: a list that is marked, its first block, and the head of the list that the rest enters.
-use Prim.Native.Nat.{ℕ, suc, _+_, _-_, _*_, _^_, _≤_, _<_}
+use Prim.Native.Nat.{ℕ, suc, _-_, _*_, _≤_, _<_}
 use native.Mathlib.Omega.{arith}
-use mathlib.Core.Path.{_≡_, refl, ap, sym, _∙_}
+use mathlib.Core.Path.{_≡_, refl, sym, _∙_}
 use mathlib.Core.Bool.{true, false}
 use mathlib.Core.List.{List}
-use Rattle.choice.specs.Choice.{eq-yes, eq-no}
 use Rattle.bits.specs.First.{firstSet, first-from, first-agree}
 use Rattle.bits.specs.Map.{mapBit}
-use Rattle.class.specs.Class.{listOf, startOf, floor, floor-at, floor-order, floor-lt, start-enough, start-fits}
+use Rattle.class.specs.Class.{listOf, startOf, start-fits, start-large}
 use Rattle.definition.specs.Calls.{wanted, place, keeps}
 use Rattle.invariants.specs.Placing.{keeps-wanted, wanted-some}
 use Rattle.script.specs.Memory.{Memory, Mark}
@@ -21,27 +20,6 @@ use Rattle.plans.specs.Checks.{seeRest}
 use Rattle.plans.specs.Allocate.{Taken, seeFirst, seeTaken}
 use Rattle.entries.specs.Answers.{slices, held, verdict, told}
 use Rattle.entries.specs.declared.Found.the-variants.{Grains, Bad}
-use Rattle.hand_out.specs.declared.Taking.{Taking}
-use Rattle.hand_out.specs.Answers.{takenOf, taking}
-
--- a search for 2 ^ n grains or more starts after the lists of n classes
-start-large : (s n : ℕ) → 0 < s → 2 ^ n ≤ s → 16 * n ≤ startOf s
-start-large s n h l =
-    let e : floor (16 * n) ≡ 16 * 2 ^ n = ap floor (omega arith) ∙ floor-at n 0 (omega arith) in
-    let p = floor-order (16 * n) (startOf s + 1) (omega (arith, e, start-enough s h, floor-lt (startOf s) (startOf s + 1) (omega arith))) in
-    omega arith
-
--- ---- answers
-
--- a refusal with i
-abbrev pub Refuses : ℕ → Taking → Type 0
-Refuses i r = r .refusal ≡ i
-
-pub refused-is : (i : ℕ) (r : Taking) → 0 < i → Refuses i r → no i ≡ taking r
-refused-is i r h e = ap no (sym e) ∙ sym (eq-no (r .refusal) 0 (ok (takenOf r)) (no (r .refusal)) (λ z. omega (arith, e)))
-
-pub taken-is : (r : Taking) → Refuses 0 r → ok (takenOf r) ≡ taking r
-taken-is r e = sym (eq-yes (r .refusal) 0 (ok (takenOf r)) (no (r .refusal)) e)
 
 -- ---- the parts of the script
 

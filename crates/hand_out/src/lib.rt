@@ -14,7 +14,7 @@ ghost use Rattle.deeds.specs.Does.{Does};
 ghost use Rattle.hand_out.specs.Demand.{Demand};
 ghost use Rattle.hand_out.specs.Answers.{taking};
 ghost use Rattle.hand_out.specs.First.{Firstly};
-ghost use Rattle.hand_out.specs.Search.{cut, Refuses};
+ghost use Rattle.hand_out.specs.Search.{cut};
 ghost use Rattle.hand_out.specs.Take.{CanTake};
 use entries::Found;
 use machine::LISTS;
@@ -87,7 +87,7 @@ fn see_cut(
 
 // Nothing is taken, and why.
 fn refuse(why: u64) -> Taking
-    ensures { λ r. ⌜ Refuses why r ⌝ }
+    ensures { λ r. ⌜ r .refusal ≡ why ⌝ }
 {
     Taking {
         refusal: why,

@@ -72,6 +72,10 @@ place-inside a x p h = record {
 pub keeps-wanted : (a x p : ℕ) → 0 < a → keeps (place a x) p ≤ wanted p a
 keeps-wanted a x p h = omega (arith, place-most a x h)
 
+-- as code counts it, for the compiler to see that it is not 0
+pub wanted-counted : (p a : ℕ) → 0 < a → (p + a - 1) / 2 + 1 ≡ wanted p a
+wanted-counted p a h = omega arith
+
 -- something is looked for
 pub wanted-some : (p a : ℕ) → 0 < a → 1 ≤ wanted p a
 wanted-some p a h = omega arith

@@ -10,21 +10,12 @@ use Rattle.machine.specs.Machine.{lists as listCount}
 use Rattle.tags.specs.Each.{Each}
 use Rattle.plans.specs.Storable.{Storable, atTag, atNext, atPrev, atHead, atMark, atTable}
 use Rattle.lent.specs.Slices.{Slices, grains, Valid, AllValid}
-use Rattle.lent.specs.Kept.{Lengths, grains-keep}
 
 -- the lists have a map and heads, every grain and the end a tag, and the regions room for `most` of them
 pub record Ample (most : ℕ) (S : Slices) : Type 0 where
   pub lists : mapWords + listCount ≤ length (S .lists)
   pub tags : grains (S .arena) < length (S .tags)
   pub regions : 2 * most + 1 ≤ length (S .regions)
-
--- it depends on the lengths alone
-pub ample-keep : (most : ℕ) (S T : Slices) → Lengths S T → Ample most S → Ample most T
-ample-keep most S T e h = record {
-  lists = rw (e .lists) (h .lists);
-  tags = rw (grains-keep (S .arena) (T .arena) (e .arena), e .tags) (h .tags);
-  regions = rw (e .regions) (h .regions);
-}
 
 module _ (most : ℕ) (S : Slices) (a : Ample most S) where
   pub storable-one : (w : Write) → Storable (grains (S .arena)) classes words most w → Valid S w

@@ -6,7 +6,7 @@ use mathlib.Core.Path.{_≡_, refl, ap, sym, _∙_}
 use mathlib.Core.List.{List}
 use mathlib.Core.Logic.{⊎-elim}
 use lib.ListN.{length}
-use Rattle.choice.specs.Choice.{eq-yes, eq-no, eq-case, upd, upd-same, upd-other, same?}
+use Rattle.choice.specs.Choice.{eq-no, eq-case, upd, upd-same, upd-other, same?}
 use Rattle.word.specs.Number.{num, puts}
 use Rattle.word.specs.Word.{wordAt, putAt, word-at-put, word-at-other}
 use Rattle.table.specs.Table.{entry, enter, entry-enter, entry-other}
@@ -45,12 +45,9 @@ module _ (S : Slices) (y : ℕ) where
   unfolding memoryOf
   memory-table = refl
 
--- a mark set, and a mark cleared
+-- a mark set
 pub mark-set : (t : List ℕ) (k : ℕ) → putMark t k 1 ≡ markBit t k
 mark-set t k = eq-no 1 0 _ _ (λ e. omega arith)
-
-pub mark-cleared : (t : List ℕ) (k : ℕ) → putMark t k 0 ≡ unmarkBit t k
-mark-cleared t k = eq-yes 0 0 _ _ refl
 
 -- what holds of each field, and of the numbers that are none
 pub by-field : (P : ℕ → Type 0) → P Tag → P Head → P Next → P Prev → P Mark → P (suc Mark) → P Table

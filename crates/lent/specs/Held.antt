@@ -46,7 +46,7 @@ set-case P (x ∷ t) zero v (suc j) p q = q
 set-case P (x ∷ t) (suc i) v zero p q = q
 set-case P (x ∷ t) (suc i) v (suc j) p q = set-case P t i v j p q
 
-enter-under : (b : ℕ) (t : List ℕ) (i v : ℕ) → v < b → Under b t → Under b (enter t i v)
+pub enter-under : (b : ℕ) (t : List ℕ) (i v : ℕ) → v < b → Under b t → Under b (enter t i v)
 unfolding enter
 enter-under b t i v h u j = set-case (λ (x : ℕ). x < b) t i v j h (u j)
 

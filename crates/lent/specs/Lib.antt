@@ -8,3 +8,4 @@ pub mod Shifted
 pub mod Ample
 pub mod Held
 pub mod Shown
+pub mod Empty

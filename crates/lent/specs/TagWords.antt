@@ -142,31 +142,12 @@ module _ (r : ℕ) (h : r < tagWords) where
     pub is-free : Exactly (tagOf r ≡ freeTag s) (r ≡ freeEntry s)
     is-free = entry-is (freeTag s) (freeEntry s) (omega arith) (free-word s)
 
-    pub is-end : Exactly (tagOf r ≡ endTag s) (r ≡ endEntry s)
-    is-end = entry-is (endTag s) (endEntry s) (omega arith) (end-word s)
-
-    pub is-small : Exactly (tagOf r ≡ smallTag s) (r ≡ smallEntry s)
-    is-small = entry-is (smallTag s) (smallEntry s) (omega arith) (small-word s)
-
-    pub is-large : Exactly (tagOf r ≡ largeTag s) (r ≡ largeEntry s)
-    is-large = entry-is (largeTag s) (largeEntry s) (omega arith) (large-word s)
-
-    pub is-start : Exactly (tagOf r ≡ startTag s) (r ≡ startEntry s)
-    is-start = entry-is (startTag s) (startEntry s) (omega arith) (start-word s)
-
-    pub is-pad : Exactly (tagOf r ≡ padTag s) (r ≡ padEntry s)
-    is-pad = entry-is (padTag s) (padEntry s) (omega arith) (pad-word s)
-
     -- FREE, and s grains: START or not
     pub ends-free : Exactly ((tagOf r % START ≡ FREE) × (tagOf r / flags ≡ s)) (r % (START * piece) ≡ endEntry s)
     ends-free = (
       (λ e. from-parts (r % (START * piece)) FREE s (below-rest ∙ sym (tag-rest r h) ∙ e .0) (below-count ∙ sym (tag-count r h) ∙ e .1)),
       (λ e. (omega (arith, tag-rest r h), omega (arith, tag-count r h))),
     )
-
-  -- certain flags, and any count
-  pub flags-are : (k : ℕ) → Exactly (tagOf r % flags ≡ k) ((k * piece ≤ r) × (r < (k + 1) * piece))
-  flags-are k = ((λ e. (omega (arith, tag-flags r h), omega (arith, tag-flags r h))), (λ e. omega (arith, e .0, e .1, tag-flags r h)))
 
   -- a free block starts here
   pub starts-free : Exactly ((tagOf r % flags ≡ START + FREE) × (1 ≤ tagOf r / flags)) ((freeEntry 1 ≤ r) × (r < (START + FREE + 1) * piece))

@@ -12,11 +12,12 @@ use Rattle.armour.specs.Turns.{row-same}
 use Rattle.refines.specs.Runs.{Reply, yes, not}
 use Rattle.lent.specs.Slices.{Slices, memoryOf}
 use Rattle.lent.specs.Kept.{Lengths, grains-keep}
+use Rattle.lent.specs.Empty.{empty-unused}
 use Rattle.promises.specs.Bytes.{ByteCall, allocate, deallocate, reallocate, insert, append}
 use Rattle.promises.specs.Performs.{grainsOf, AllLong, Sized, Rowed}
 use Rattle.promises.specs.Sizes.{sized-keep, performs-sized}
 use Rattle.promises.specs.Begins.{Begun}
-use Rattle.promises.specs.Fresh.{begun-sized, begun-stands, begun-unused}
+use Rattle.promises.specs.Fresh.{begun-sized, begun-stands}
 use Rattle.promises.specs.Runs.{Loan, In, book, Struck, Havoc, Right, NotAbout, Kept, Spared}
 use Rattle.promises.specs.Ledgers.{strike-keeps, call-right, loans-apart, loan-right, loan-kept}
 
@@ -50,7 +51,7 @@ begun-right S T l b = record {
   blocks = empty (grainsOf T) .blocks;
   row = begun-stands S T l b .row;
   lends = λ e i. absurd i;
-  all = λ y s d h. absurd (begun-unused S T l b y s d h);
+  all = λ y s d h. absurd (empty-unused (grainsOf T) y s d h);
   once = tt;
 }
 

@@ -17,7 +17,6 @@ pub mod Carrying
 pub mod One
 pub mod Refusals
 pub mod Deciding
-pub mod Regionless
 pub mod Storable
 pub mod Sizes
 pub mod Records

@@ -14,7 +14,7 @@ use Rattle.invariants.specs.Live.{live-back}
 use Rattle.invariants.specs.Cramped.{Cramped}
 use Rattle.invariants.specs.Promises.{refused-exactly}
 use Rattle.script.specs.Memory.{Memory}
-use Rattle.script.specs.Script.{ok, no, run, Gives, goes, halts, ends-gives}
+use Rattle.script.specs.Script.{ok, no, run, Gives, goes, ends-gives}
 use Rattle.sound.specs.Refused.{stops-bind, stops-with}
 use Rattle.sound.specs.RefusedCalls.{Among}
 use Rattle.request.specs.Asked.{InRange}
@@ -26,7 +26,8 @@ use Rattle.plans.specs.Deallocate.{deallocateScript}
 use Rattle.plans.specs.Reallocate.{resizeScript, reallocateScript}
 use Rattle.plans.specs.Calls.{Call, Deallocate, Reallocate}
 use Rattle.refines.specs.Sounds.{Meets}
-use Rattle.refines.specs.SeenOwner.{owner-gives, owner-refused}
+use Rattle.armour.specs.Dead.{NotLiveIn, deallocate-dead, reallocate-dead}
+use Rattle.refines.specs.SeenOwner.{owner-gives}
 use Rattle.refines.specs.DeallocateMeets.{deallocate-meets}
 use Rattle.refines.specs.Calls.{reallocate-refused-exactly as script-cramped}
 use Rattle.refines.specs.Runs.{Reply, yes, not}
@@ -60,15 +61,6 @@ module _ (m : Memory) (n c q : ℕ) {o : Owner} (g : Gives m (seeOwner n q) o) w
       stops-plan (Among (1 ∷ 5 ∷ [])) (inr (inl refl)) t)
       (sym (goes m (seeOwner n q) _ g) ∙ e)
 
--- what is not live is refused with 3 by both
-deallocate-dead : (m : Memory) (n c q : ℕ) → run m (seeOwner n q) ≡ no 3 → run m (deallocateScript n c q) ≡ no 3
-unfolding deallocateScript
-deallocate-dead m n c q e = halts m (seeOwner n q) _ e
-
-reallocate-dead : (m : Memory) (n c q p a : ℕ) → run m (seeOwner n q) ≡ no 3 → run m (reallocateScript n c q p a) ≡ no 3
-unfolding reallocateScript
-reallocate-dead m n c q p a e = halts m (seeOwner n q) _ e
-
 -- ---- where the tags are right
 
 module _ (S : Slices) (xs : List Block) (o : Rowed S xs) (x q : ℕ) (e : half * q ≡ x) where
@@ -77,8 +69,8 @@ module _ (S : Slices) (xs : List Block) (o : Rowed S xs) (x q : ℕ) (e : half *
       let u : 2 * y + d ≡ q = omega (arith, h .offset) in
       subst (λ (q : ℕ). Gives (memoryOf S) (seeOwner (grainsOf S) q) (record { at = y; grains = s })) u (owner-gives (grainsOf S) classes (memoryOf S) xs o y s d (h .block))
 
-  owner-none : Dead xs x → run (memoryOf S) (seeOwner (grainsOf S) q) ≡ no 3
-  owner-none dead = owner-refused (grainsOf S) classes (memoryOf S) xs o q (λ y s d b i. dead y s d (record { block = b; offset = omega (arith, i) }))
+  not-live : Dead xs x → NotLiveIn xs q
+  not-live dead y s d b i = dead y s d (record { block = b; offset = omega (arith, i) })
 
 -- an offset between half grains is no payload's
 between-dead : (xs : List Block) (x : ℕ) → (AtHalf x → ⊥) → Dead xs x
@@ -102,7 +94,7 @@ module _ (S : Slices) (x : ℕ) (r : Reply) (T : Slices) (p : Performs S (deallo
       (λ (e : x % half ≡ 0). let h = half-offset x e in (
         (λ i y s d b. let z = deallocate-stops (memoryOf S) (grainsOf S) classes (x / half) (owner-is S xs o x (x / half) h y s d b) 3
             (refused-in S (deallocate x) (Deallocate (x / half)) (returning e) r T 3 p i) in omega (arith, z)),
-        (λ dead. refused-by S (deallocate x) (Deallocate (x / half)) (returning e) r T 3 p (deallocate-dead (memoryOf S) (grainsOf S) classes (x / half) (owner-none S xs o x (x / half) h dead))),
+        (λ dead. refused-by S (deallocate x) (Deallocate (x / half)) (returning e) r T 3 p (deallocate-dead (grainsOf S) classes (memoryOf S) xs o (x / half) (not-live S xs o x (x / half) h dead))),
       ))
       (λ (n : x % half ≡ 0 → ⊥). ((λ _. between-dead xs x n), (λ _. performs-one S (deallocate x) r (not 3) T S p (early 3 (Early.wrong 3 l (between n))) .0)))
       (same? (x % half) 0)
@@ -143,7 +135,7 @@ module _ (S : Slices) (x n a : ℕ) (r : Reply) (T : Slices) (p : Performs S (re
       (λ (k : OfKind x). (
         (λ e y s d b. not-three (live-stops xs o y s d b k 3 e)),
         (λ dead. refused-by S (reallocate x n a) asked (resizing k) r T 3 p
-            (reallocate-dead (memoryOf S) (grainsOf S) classes (x / half) (halves half n) (multiple half a) (owner-none S xs o x (x / half) (stands-offset (there k)) dead))),
+            (reallocate-dead (grainsOf S) classes (memoryOf S) xs o (x / half) (not-live S xs o x (x / half) (stands-offset (there k)) dead) (halves half n) (multiple half a))),
       ))
       (λ (no-kind : OfKind x → ⊥). (
         (λ _. between-dead xs x (λ e. no-kind (half-kind x e))),

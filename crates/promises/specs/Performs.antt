@@ -1,7 +1,7 @@
 -- What a call does to lent slices, whatever is in them (`Performs`), and what the definition says that it does to a heap
 -- (`Defines`). Both in the order in which refusals are tested: tables that are too short, numbers, and then what the script
 -- of the call tests.
-use Prim.Native.Nat.{ℕ, _+_, _-_, _*_, _/_, _≤_, _<_}
+use Prim.Native.Nat.{ℕ, _+_, _-_, _/_, _≤_, _<_}
 use mathlib.Core.Path.{_≡_}
 use mathlib.Core.List.{List}
 use lib.ListN.{length}

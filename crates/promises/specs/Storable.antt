@@ -30,7 +30,7 @@ use Rattle.promises.specs.Bytes.{ByteCall, Asks, take, back, resize, giv
 use Rattle.promises.specs.Performs.{grainsOf, mostOf, LongEnough, Long, Sized, outcome, stored, Rowed}
 use Rattle.promises.specs.Terms.{SameTables}
 use Rattle.promises.specs.Carrying.{stored-lengths, stored-tables}
-use Rattle.promises.specs.Regionless.{allocate-untouched, deallocate-untouched, reallocate-untouched}
+use Rattle.refines.specs.Tables.{allocate-untouched, deallocate-untouched, reallocate-untouched}
 
 -- the tables that a call writes are long enough
 abbrev pub LongFor : Slices → Call → Type 0

@@ -1,30 +1,30 @@
 -- T4, allocate: on a sound memory it does what the definition says.
-use Prim.Native.Nat.{ℕ, _+_, _-_, _*_, _≤_, _<_}
+use Prim.Native.Nat.{ℕ, _+_, _-_, _*_, _≤_}
 use native.Mathlib.Omega.{arith}
 use mathlib.Core.Path.{_≡_, refl, ap, sym, _∙_, subst}
-use mathlib.Core.List.{List, [], _∷_, _++_}
-use mathlib.Core.Logic.{inl, inr, ⊎-elim}
+use mathlib.Core.List.{List, [], _∷_}
+use mathlib.Core.Logic.{inl}
 use Rattle.class.specs.Class.{listOf, startOf}
 use Rattle.definition.specs.Blocks.{Block, free, total, _⟨⟩_}
 use Rattle.definition.specs.Lists.{Lists, drop, Found, nothing, found}
-use Rattle.definition.specs.Calls.{Heap, noList, refused, granted, wanted, place, keeps, leave as leaveRest, take}
-use Rattle.invariants.specs.Order.{out, BlockAt, at-here, at-whole, Apart, same, before, behind, apart}
+use Rattle.definition.specs.Calls.{Heap, wanted, place, keeps, leave as leaveRest, take}
+use Rattle.invariants.specs.Order.{out, at-here, at-whole, Apart, same, before, behind, apart}
 use Rattle.invariants.specs.Members.{Mem, mem-drop}
 use Rattle.invariants.specs.Moves.{Ok}
 use Rattle.invariants.specs.Placing.{Align}
-use Rattle.invariants.specs.Promises.{Finds, finds, search-empty, Took, sought, take-found, refused-exactly}
+use Rattle.invariants.specs.Promises.{finds, search-empty, sought, take-found, refused-exactly}
 use Rattle.script.specs.Memory.{Memory}
 use Rattle.script.specs.Script.{Gives, no, run, gives-bind, halts}
-use Rattle.chains.specs.Steps.{Step, leave, stepsLists, lists-append}
+use Rattle.chains.specs.Steps.{stepsLists, lists-append}
 use Rattle.chains.specs.Legal.{NotIn, Legal, legal-append}
 use Rattle.chains.specs.Closed.{ready-append}
 use Rattle.plans.specs.Deeds.{planOf}
 use Rattle.plans.specs.Planned.{plan-gives, taken-checked}
 use Rattle.plans.specs.Allocate.{takenSteps, allocateDeed, seeTaken, allocateScript}
-use Rattle.armour.specs.Row.{Row, Sound}
+use Rattle.armour.specs.Row.{Sound}
 use Rattle.armour.specs.Changed.{rest-free}
 use Rattle.armour.specs.Allocates.{firstAt, handed, kept-some, kept-fits, take-ready, take-turns, taken-found}
-use Rattle.refines.specs.Sounds.{number, Grants, Meets, sound-after}
+use Rattle.refines.specs.Sounds.{Grants, Meets, sound-after}
 use Rattle.refines.specs.Seen.{sound-ok}
 use Rattle.refines.specs.SeenTaken.{taken-at, taken-refused}
 use Rattle.refines.specs.Listed.{rest-lists, rest-legal}

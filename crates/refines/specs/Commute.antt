@@ -1,9 +1,9 @@
 -- A block that leaves its list and a step of another block may change places.
 use Prim.Native.Nat.{ℕ}
-use mathlib.Core.Path.{_≡_, refl, ap, sym, _∙_, subst, fun-ext}
-use mathlib.Core.List.{List, [], _∷_, _++_}
-use mathlib.Core.Logic.{_⊎_, inl, inr, ⊎-elim}
-use Rattle.choice.specs.Choice.{ifEq, eq-yes, eq-no, eq-case, upd-same, upd-other, same?}
+use mathlib.Core.Path.{_≡_, refl, ap, sym, _∙_, fun-ext}
+use mathlib.Core.List.{List, [], _∷_}
+use mathlib.Core.Logic.{⊎-elim}
+use Rattle.choice.specs.Choice.{eq-yes, eq-no, eq-case, upd-same, upd-other, same?}
 use Rattle.class.specs.Class.{listOf}
 use Rattle.definition.specs.Lists.{Lists, remove, push, drop}
 use Rattle.invariants.specs.Members.{Mem, Apiece, mem-drop, mem-dropped, apiece-drop}

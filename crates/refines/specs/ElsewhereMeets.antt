@@ -2,40 +2,38 @@
 -- which takes first.
 use Prim.Native.Nat.{ℕ, _+_, _-_, _*_, _≤_, _<_}
 use native.Mathlib.Omega.{arith}
-use mathlib.Core.Path.{_≡_, refl, ap, sym, _∙_, subst}
+use mathlib.Core.Path.{_≡_, ap, sym, _∙_, subst}
 use mathlib.Core.List.{List, [], _∷_, _++_}
-use mathlib.Core.Logic.{_⊎_, inl, inr, ⊎-elim}
-use Rattle.choice.specs.Choice.{eq-case, same?}
+use mathlib.Core.Logic.{⊎-elim}
+use Rattle.choice.specs.Choice.{eq-case}
 use Rattle.class.specs.Class.{listOf}
 use Rattle.definition.specs.Blocks.{Block, free, used, total, _⟨⟩_, room, past}
 use Rattle.definition.specs.Lists.{Lists, push, drop, skip, found}
-use Rattle.definition.specs.Calls.{Heap, Answer, granted, wanted, place, keeps, join, takeAt, backAfter}
-use Rattle.invariants.specs.Order.{BlockAt, at-here, at-whole, out}
-use Rattle.invariants.specs.Members.{Mem, Apiece, mem-drop, apiece-drop}
+use Rattle.definition.specs.Calls.{Heap, granted, wanted, place, keeps, join, takeAt, backAfter}
+use Rattle.invariants.specs.Members.{Mem, Apiece, apiece-drop}
 use Rattle.invariants.specs.Moves.{Ok, Sane}
 use Rattle.invariants.specs.Neighbours.{total-past, join-ok}
 use Rattle.invariants.specs.Placing.{Align}
 use Rattle.invariants.specs.Promises.{sought}
 use Rattle.script.specs.Memory.{Memory, Next, Prev}
-use Rattle.script.specs.Script.{Gives}
-use Rattle.chains.specs.Steps.{Step, leave, enter, stepsLists, lists-append}
+use Rattle.chains.specs.Steps.{Step, leave, stepsLists, lists-append}
 use Rattle.chains.specs.Legal.{NotIn, Legal, legal-append}
 use Rattle.chains.specs.Closed.{Headed}
 use Rattle.plans.specs.Deeds.{planOf, after}
 use Rattle.plans.specs.Checked.{join-checked}
 use Rattle.plans.specs.Planned.{taken-checked}
-use Rattle.plans.specs.Allocate.{restSteps, takenSteps, seeTaken}
+use Rattle.plans.specs.Allocate.{takenSteps}
 use Rattle.plans.specs.Deallocate.{leaveSteps, besideSteps, joinSteps}
 use Rattle.plans.specs.Reallocate.{elsewhereDeed}
-use Rattle.armour.specs.Row.{Row, Sound, Free}
+use Rattle.armour.specs.Row.{Sound, Free}
 use Rattle.armour.specs.Known.{headed-known, whole-block}
 use Rattle.armour.specs.Apart.{Cramped}
 use Rattle.armour.specs.Allocates.{firstAt, handed, kept-some, kept-fits, taken-found}
-use Rattle.armour.specs.Elsewhere.{apart-old, clear-old, rooms, back, away-defined, away-turns, Parted, parted}
+use Rattle.armour.specs.Elsewhere.{apart-old, clear-old, rooms, away-defined, away-turns, Parted, parted}
 use Rattle.refines.specs.Sounds.{sound-after}
 use Rattle.refines.specs.Seen.{sound-ok}
 use Rattle.refines.specs.Listed.{both-lists, both-legal, both-none, rest-legal}
-use Rattle.refines.specs.Commute.{Absent, leave-through, skip-through, skip-keeps, skip-fewer, skip-apiece}
+use Rattle.refines.specs.Commute.{Absent, skip-through, skip-keeps, skip-fewer, skip-apiece}
 use Rattle.refines.specs.AllocateMeets.{taken-here, head-member, rest-none, taken-lists}
 use Rattle.refines.specs.DeallocateMeets.{Here, seen-after, seen-before, joins}
 

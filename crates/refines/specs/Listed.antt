@@ -1,23 +1,23 @@
 -- The steps of the calls do to the lists what the definition does: free neighbours leave theirs, and what is left or joined enters
 -- its own.
-use Prim.Native.Nat.{ℕ, _+_, _-_, _*_, _≤_, _<_}
+use Prim.Native.Nat.{ℕ, _+_, _-_, _≤_, _<_}
 use native.Mathlib.Omega.{arith}
 use mathlib.Core.Path.{_≡_, refl, ap, sym, _∙_, subst}
-use mathlib.Core.List.{List, [], _∷_, _++_}
-use mathlib.Core.Logic.{_⊎_, inl, inr, ⊎-elim}
-use Rattle.choice.specs.Choice.{ifEq, eq-yes, eq-no, eq-case, same?}
+use mathlib.Core.List.{List, [], _∷_}
+use mathlib.Core.Logic.{⊎-elim}
+use Rattle.choice.specs.Choice.{eq-yes, eq-no, eq-case, same?}
 use Rattle.class.specs.Class.{listOf}
 use Rattle.definition.specs.Blocks.{Block, free, used, last, gap, total, _⟨⟩_, room, past}
-use Rattle.definition.specs.Lists.{Lists, push, drop, skip}
+use Rattle.definition.specs.Lists.{Lists, skip}
 use Rattle.definition.specs.Calls.{Heap, leave as leaveRest}
-use Rattle.invariants.specs.Order.{Side, busy, Ordered, OrderedL, order-split, BlockAt, at-here}
+use Rattle.invariants.specs.Order.{busy, Ordered, OrderedL, order-split, BlockAt, at-here}
 use Rattle.invariants.specs.Members.{Mem}
 use Rattle.invariants.specs.Moves.{Sane, used-unlisted}
 use Rattle.invariants.specs.Neighbours.{total-past, swallow-behind, swallow}
-use Rattle.chains.specs.Steps.{Step, leave, enter, stepsLists, lists-append}
+use Rattle.chains.specs.Steps.{stepsLists, lists-append}
 use Rattle.chains.specs.Legal.{NotIn, Legal, legal-append}
 use Rattle.plans.specs.Allocate.{restSteps}
-use Rattle.plans.specs.Deallocate.{leaveSteps, besideSteps, joinSteps}
+use Rattle.plans.specs.Deallocate.{leaveSteps, besideSteps}
 
 -- ---- a free neighbour that stands first in r, at y
 

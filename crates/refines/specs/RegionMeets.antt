@@ -1,15 +1,15 @@
 -- T4, insert and append: on a sound memory they do what the definition says.
-use Prim.Native.Nat.{ℕ, zero, suc, _+_, _-_, _*_, _%_, _^_, _≤_, _<_, min}
+use Prim.Native.Nat.{ℕ, zero, suc, _+_, _-_, _%_, _^_, _≤_, _<_, min}
 use native.Mathlib.Omega.{arith}
 use mathlib.Core.Path.{_≡_, refl, ap, sym, _∙_, subst}
-use mathlib.Core.List.{List, [], _∷_, _++_}
+use mathlib.Core.List.{List, [], _∷_}
 use mathlib.Core.Logic.{_⊎_, inl, inr, ⊎-elim}
-use Rattle.choice.specs.Choice.{ifEq, ifLe, eq-yes, eq-no, le?, le-yes, le-no, le-case}
+use Rattle.choice.specs.Choice.{ifEq, ifLe, eq-no, le?, le-case}
 use Rattle.class.specs.Class.{listOf}
 use Rattle.definition.specs.Blocks.{Block, free, last, gap, total, _⟨⟩_, gaps}
 use Rattle.definition.specs.Lists.{Lists, push}
-use Rattle.definition.specs.Calls.{Heap, noRegion, Answer, refused, granted, Laid, lay, insert, append}
-use Rattle.invariants.specs.Order.{BlockAt, one-block}
+use Rattle.definition.specs.Calls.{Heap, Laid, lay, insert, append}
+use Rattle.invariants.specs.Order.{one-block}
 use Rattle.invariants.specs.Members.{Mem, Apiece, mem-push, apiece-push}
 use Rattle.invariants.specs.Moves.{Ok, free-gap}
 use Rattle.invariants.specs.Gaps.{Spot, spot-gap, spot-inside}
@@ -18,17 +18,17 @@ use Rattle.script.specs.Memory.{Memory, Table}
 use Rattle.script.specs.Script.{Script, done, stop, no, run, unlessLe, mustEq, mustLe, _>>=_, _>>_, Gives, reads, goes, halts, gives-bind, gives-eq, gives-le, gives-done, halts-le}
 use Rattle.sound.specs.RegionPlan.{Looked, seeRegions}
 use Rattle.sound.specs.RegionTable.{Overlap, Passed}
-use Rattle.chains.specs.Steps.{Step, enter, stepsLists, lists-append}
+use Rattle.chains.specs.Steps.{Step, stepsLists, lists-append}
 use Rattle.chains.specs.Legal.{NotIn, Legal, legal-append}
-use Rattle.plans.specs.Deeds.{Deed, Plan, planOf, planScript}
+use Rattle.plans.specs.Deeds.{Plan, planOf, planScript}
 use Rattle.plans.specs.Checks.{seeHead}
 use Rattle.plans.specs.Planned.{plan-gives}
-use Rattle.plans.specs.Regions.{laySteps, layOver, regionDeed, seePieces, regionScript}
-use Rattle.armour.specs.Row.{Row, Sound}
+use Rattle.plans.specs.Regions.{laySteps, regionDeed, seePieces, regionScript}
+use Rattle.armour.specs.Row.{Sound}
 use Rattle.armour.specs.Laid.{le-pair, over-is}
 use Rattle.armour.specs.Inserts.{nothingSeen, looked-at, clear-spot, given, region-turns}
 use Rattle.armour.specs.Regions.{admitted, sentinel-before, region-ended}
-use Rattle.refines.specs.Sounds.{number, Grants, Meets, sound-after}
+use Rattle.refines.specs.Sounds.{Meets, sound-after}
 use Rattle.refines.specs.Seen.{sound-ok, head-gives}
 
 -- ---- the lists

@@ -1,17 +1,17 @@
 -- T5: any number of calls, one after the other, from a sound memory. Between the calls the callers may write into their live
 -- payloads. The answers are the definition's, one by one, and the memory at the end is sound for the heap at the end. The
 -- definition is told how many regions the table holds, and answers 6 itself; so every list of calls is meant.
-use Prim.Native.Nat.{ℕ, suc, _+_, _-_, _*_, _≤_, _<_}
+use Prim.Native.Nat.{ℕ, _+_, _≤_, _<_}
 use native.Mathlib.Omega.{arith}
 use mathlib.Core.Path.{_≡_, refl, ap, sym, _∙_, subst}
 use mathlib.Core.List.{List, [], _∷_}
-use mathlib.Core.Logic.{_⊎_, inl, inr, ⊎-elim}
+use mathlib.Core.Logic.{⊎-elim}
 use Rattle.choice.specs.Choice.{ifEq, eq-yes, eq-no, same?}
-use Rattle.definition.specs.Blocks.{Block, free, used}
+use Rattle.definition.specs.Blocks.{free, used}
 use Rattle.definition.specs.Calls.{Heap, Answer, refused, granted}
 use Rattle.invariants.specs.Order.{BlockAt}
 use Rattle.script.specs.Memory.{Memory, Next, Prev, Mark, Table}
-use Rattle.script.specs.Script.{Script, Result, ok, no, run}
+use Rattle.script.specs.Script.{Result, ok, no, run}
 use Rattle.tags.specs.Tag.{Tag}
 use Rattle.chains.specs.Links.{Head}
 use Rattle.chains.specs.Legal.{kept-apart}
@@ -19,7 +19,7 @@ use Rattle.plans.specs.Deeds.{Plan, after}
 use Rattle.plans.specs.Calls.{Call, Allocate, Deallocate, Reallocate, Insert, Append, scriptOf, Fair}
 use Rattle.armour.specs.Row.{Sound}
 use Rattle.armour.specs.Turns.{row-same}
-use Rattle.refines.specs.Sounds.{number, Grants, Meets}
+use Rattle.refines.specs.Sounds.{number, Meets}
 use Rattle.refines.specs.Calls.{answerOf, NeedsRoom, call-meets, full-refused}
 use Rattle.refines.specs.Tables.{allocate-table, deallocate-table, reallocate-table, region-table}
 

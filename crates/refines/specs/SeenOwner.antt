@@ -15,7 +15,6 @@ use Rattle.tags.specs.Tag.{Tag, flags, START, SMALL, LARGE, smallTag, largeTag,
 use Rattle.tags.specs.Decode.{first-small, first-large, first-wide, pad-tag}
 use Rattle.plans.specs.Checks.{mustGrain, Owner, owned, ownerSmall, ownerLarge, seeOwner}
 use Rattle.armour.specs.Row.{Row}
-pub use Rattle.armour.specs.Dead.{owner-refused}
 use Rattle.refines.specs.Seen.{gives-grain, used-inside}
 
 module _ (n c : ℕ) (m : Memory) (xs : List Block) (o : Row n c m xs) where

@@ -13,7 +13,6 @@ use Rattle.definition.specs.Lists.{Lists, nothing, found, search}
 use Rattle.definition.specs.Calls.{Heap, wanted, place, keeps}
 use Rattle.invariants.specs.Order.{BlockAt}
 use Rattle.invariants.specs.Members.{Mem}
-use Rattle.invariants.specs.Placing.{Align}
 use Rattle.invariants.specs.Promises.{finds, sought, search-empty}
 use Rattle.script.specs.Memory.{Memory, Next, Prev, Mark}
 use Rattle.script.specs.Script.{unlessLe, mustEq, run, no, Gives, gives-bind, gives-get, gives-eq, gives-le, gives-done, halts, halts-le, searches}
@@ -82,14 +81,6 @@ module _ (n c p a : ℕ) (m : Memory) (h : Heap) where
       (gives-bind m (seeFirst n k y) _ (first-gives n c m h o k y (d .rest) (d .list) s b q)
       (gives-bind m (seeRest n c s (keeps (place a y) p)) _ (rest-gives n c m h o s (keeps (place a y) p) (free-some n c m h o y s b) (free-below n c m h o y s b))
       (gives-done m _))))
-
-  pub taken-gives : Align a → Sound n c m h → (k y : ℕ) → sought c h p a ≡ found k y
-      → (s : ℕ) × BlockAt y (free s) 0 (h .blocks) × (listOf s ≡ k) × Gives m (seeTaken n c p a) (record { list = k; block = y; grains = s })
-  taken-gives al o k y e =
-      let w = startOf (wanted p a) in
-      let d = finds (h .lists) (16 * c - w) w k y e in
-      let g = o .exact .there k y (member n c m h o k y (d .rest) (d .list)) in
-      (g .0, g .1, g .2, taken-at o k y (g .0) e (g .1) (g .2))
 
   -- no list: refused with 1
   pub taken-refused : Sound n c m h → sought c h p a ≡ nothing → run m (seeTaken n c p a) ≡ no 1

@@ -4,20 +4,17 @@ use Prim.Native.Nat.{ℕ}
 use native.Mathlib.Omega.{arith}
 use mathlib.Core.Path.{_≡_, refl, ap, sym, _∙_, subst}
 use mathlib.Core.List.{List, [], _∷_, _++_}
-use mathlib.Core.Logic.{inl, inr, ⊎-elim}
 use Rattle.choice.specs.Choice.{upd-other}
-use Rattle.definition.specs.Blocks.{Block, free, used}
-use Rattle.definition.specs.Lists.{Lists}
+use Rattle.definition.specs.Blocks.{free, used}
 use Rattle.definition.specs.Calls.{Heap, Refusal, noList, notLive, noRegion, Answer, refused, granted}
 use Rattle.invariants.specs.Order.{BlockAt, one-block}
 use Rattle.invariants.specs.Members.{Mem}
 use Rattle.invariants.specs.Moves.{Ok, free-used}
-use Rattle.script.specs.Memory.{Memory, Next, Prev, Mark, Table, apply, apply-append, apply-untouched, Untouched}
+use Rattle.script.specs.Memory.{Memory, Next, Prev, Mark, Table, apply, apply-append, apply-untouched}
 use Rattle.script.specs.Script.{Script, ok, no, run}
 use Rattle.tags.specs.Tag.{Tag}
 use Rattle.chains.specs.Links.{Head}
-use Rattle.chains.specs.Steps.{Step, stepsWrites, stepsLists, steps-append}
-use Rattle.chains.specs.Strung.{Strung}
+use Rattle.chains.specs.Steps.{stepsWrites, stepsLists, steps-append}
 use Rattle.chains.specs.Legal.{Legal, Kept, steps-strung, kept-same, kept-apart}
 use Rattle.plans.specs.Deeds.{Deed, Plan, guardWrites, earlyWrites, planOf, after}
 use Rattle.armour.specs.Row.{Row, Sound, Used}

@@ -2,60 +2,68 @@
 -- raises the number of regions by one.
 use Prim.Native.Nat.{ℕ, suc, _+_, _-_, _*_}
 use native.Mathlib.Omega.{arith}
-use mathlib.Core.Path.{_≡_, refl, ap, sym, _∙_, subst}
-use mathlib.Core.List.{List, [], _∷_, _++_}
+use mathlib.Core.Path.{_≡_, refl, ap, _∙_, subst}
+use mathlib.Core.List.{_++_}
 use mathlib.Core.Logic.{inr}
 use Rattle.choice.specs.Choice.{ifEq, eq-case, le-case, upd-same}
 use Rattle.definition.specs.Calls.{place, keeps}
-use Rattle.script.specs.Memory.{Memory, Table, apply, apply-append}
-use Rattle.script.specs.Script.{Script, done, stop, unlessLe, mustEq, mustLe, Gives, inv-bind, inv-get, Ends, ends-any, ends-gives}
+use Rattle.script.specs.Memory.{Memory, Table, apply, apply-append, apply-untouched, Untouched, untouched-append}
+use Rattle.script.specs.Script.{done, stop, unlessLe, mustEq, mustLe, Gives, inv-bind, inv-get, Ends, ends-any, ends-gives}
 use Rattle.sound.specs.RegionPlan.{seeRegions, entryWrites}
 use Rattle.tags.specs.Tag.{Tag}
-use Rattle.tags.specs.Each.{Each, each-append}
+use Rattle.tags.specs.Each.{Each, each-append, each-untouched}
 use Rattle.tags.specs.Writes.{allocateTags, deallocateTags}
 use Rattle.tags.specs.Within.{ToTag, allocate-field, deallocate-field, stretch-field, down-field}
-use Rattle.plans.specs.Deeds.{Deed, Plan, planOf, planScript, after}
+use Rattle.chains.specs.Legal.{Else, steps-rest}
+use Rattle.chains.specs.Steps.{stepsWrites}
+use Rattle.plans.specs.Deeds.{Deed, Plan, guardWrites, earlyWrites, lateWrites, planOf, writes, after}
 use Rattle.plans.specs.Checks.{seeOwner, seeGuard, seeAfter, seeBefore, seeRest, seeJoin}
 use Rattle.plans.specs.Planned.{plan-checked}
-use Rattle.plans.specs.Allocate.{Taken, allocateDeed, seeTaken, allocateScript}
+use Rattle.plans.specs.Allocate.{allocateDeed, seeTaken, allocateScript}
 use Rattle.plans.specs.Deallocate.{deallocateDeed, deallocateScript}
 use Rattle.plans.specs.Reallocate.{elsewhereScript, downScript, moveScript, stretchScript, resizeScript, reallocateScript}
 use Rattle.plans.specs.Regions.{layTags, layOver, regionDeed, seePieces, regionScript}
-use Rattle.armour.specs.Turns.{after-records}
-use Rattle.armour.specs.Changed.{tags-table}
-use Rattle.armour.specs.Laid.{lay-field}
+use Rattle.armour.specs.Turns.{guards-rest, after-records}
 use Rattle.armour.specs.Inserts.{nothingSeen}
 
--- a deed that writes tags alone
+-- a deed whose records are tags alone
 abbrev Tags : Deed → Type 0
 Tags t = Each ToTag (t .records)
 
-left-alone : (m : Memory) (t : Deed) → Tags t → after m (planOf m t) Table ≡ m Table
-left-alone m t h = after-records m t Table (inr refl) ∙ tags-table m (t .records) h
+elsewhere : Else Table
+elsewhere = record { next = omega arith; prev = omega arith; head = omega arith; mark = omega arith }
 
-pub allocate-table : (n c p a : ℕ) (m : Memory) (t : Plan) → Gives m (allocateScript n c p a) t → after m t Table ≡ m Table
+deed-untouched : (m : Memory) (t : Deed) → Tags t → Untouched Table (writes (planOf m t))
+deed-untouched m t h =
+    let u = apply m (earlyWrites m t) in
+    untouched-append Table (earlyWrites m t) (lateWrites m t) (steps-rest Table elsewhere m (t .early))
+    (untouched-append Table (stepsWrites u (t .late)) (guardWrites (t .guards) ++ t .records) (steps-rest Table elsewhere u (t .late))
+    (untouched-append Table (guardWrites (t .guards)) (t .records) (guards-rest Table elsewhere (t .guards)) (each-untouched Tag Table (t .records) (omega arith) h)))
+
+pub allocate-untouched : (n c p a : ℕ) (m : Memory) {t : Plan} → Gives m (allocateScript n c p a) t → Untouched Table (writes t)
 unfolding allocateScript
-allocate-table n c p a m t g =
+allocate-untouched n c p a m {t} g =
     let i = inv-bind m (seeTaken n c p a) _ g in
-    let d = allocateDeed p a (i .0) in
-    subst (λ (t : Plan). after m t Table ≡ m Table) (plan-checked m d (i .2)) (left-alone m d (allocate-field (i .0 .block) (i .0 .grains) (keeps (place a (i .0 .block)) p) (place a (i .0 .block))))
+    let d = place a (i .0 .block) in
+    subst (λ (t : Plan). Untouched Table (writes t)) (plan-checked m (allocateDeed p a (i .0)) (i .2))
+    (deed-untouched m (allocateDeed p a (i .0)) (allocate-field (i .0 .block) (i .0 .grains) (keeps d p) d))
 
-pub deallocate-table : (n c q : ℕ) (m : Memory) (t : Plan) → Gives m (deallocateScript n c q) t → after m t Table ≡ m Table
+pub deallocate-untouched : (n c q : ℕ) (m : Memory) {t : Plan} → Gives m (deallocateScript n c q) t → Untouched Table (writes t)
 unfolding deallocateScript
-deallocate-table n c q m t g =
+deallocate-untouched n c q m {t} g =
     let i = inv-bind m (seeOwner n q) _ g in
     let j = inv-bind m (seeGuard (i .0 .at)) _ (i .2) in
     let k = inv-bind m (seeAfter n c (i .0 .at + i .0 .grains)) _ (j .2) in
     let w = inv-bind m (seeBefore n c (i .0 .at)) _ (k .2) in
     let v = inv-bind m (seeJoin n c (w .0 + (i .0 .grains + k .0))) _ (w .2) in
     let d = deallocateDeed (i .0 .at) (i .0 .grains) (q - 2 * i .0 .at) (w .0) (k .0) in
-    subst (λ (t : Plan). after m t Table ≡ m Table) (plan-checked m d (v .2)) (left-alone m d (deallocate-field (i .0 .at) (i .0 .grains) (q - 2 * i .0 .at) (w .0) (k .0)))
+    subst (λ (t : Plan). Untouched Table (writes t)) (plan-checked m d (v .2)) (deed-untouched m d (deallocate-field (i .0 .at) (i .0 .grains) (q - 2 * i .0 .at) (w .0) (k .0)))
 
 elsewhere-tags : (n c p a x s d i j : ℕ) → Ends Tags (elsewhereScript n c p a x s d i j)
 unfolding elsewhereScript
 elsewhere-tags n c p a x s d i j = ends-any Tags (seeTaken n c p a) _ λ t. ends-any Tags (seeJoin n c (i + (s + j))) _ λ _.
-    each-append ToTag (allocateTags (t .block) (t .grains) (keeps (place a (t .block)) p) (place a (t .block))) (deallocateTags x s d i j)
-    (allocate-field (t .block) (t .grains) (keeps (place a (t .block)) p) (place a (t .block))) (deallocate-field x s d i j)
+    let e = place a (t .block) in
+    each-append ToTag (allocateTags (t .block) (t .grains) (keeps e p) e) (deallocateTags x s d i j) (allocate-field (t .block) (t .grains) (keeps e p) e) (deallocate-field x s d i j)
 
 resize-tags : (n c q p a x s d : ℕ) → Ends Tags (resizeScript n c q p a x s d)
 unfolding resizeScript stretchScript moveScript downScript
@@ -67,14 +75,27 @@ resize-tags n c q p a x s d = eq-case (Ends Tags) (keeps d p) s _ _ (λ _. tt) �
     (λ _. ends-any Tags (seeRest n c (i + (s + b)) (keeps (place a (x - i)) p)) _ λ _. down-field x s d i b (keeps (place a (x - i)) p) (place a (x - i)))
     (λ _. elsewhere-tags n c p a x s d i b)))
 
-pub reallocate-table : (n c q p a : ℕ) (m : Memory) (t : Plan) → Gives m (reallocateScript n c q p a) t → after m t Table ≡ m Table
+pub reallocate-untouched : (n c q p a : ℕ) (m : Memory) {t : Plan} → Gives m (reallocateScript n c q p a) t → Untouched Table (writes t)
 unfolding reallocateScript
-reallocate-table n c q p a m t g =
+reallocate-untouched n c q p a m {t} g =
     let i = inv-bind m (seeOwner n q) _ g in
     let j = inv-bind m (seeGuard (i .0 .at)) _ (i .2) in
-    let k = inv-bind m (resizeScript n c q p a (i .0 .at) (i .0 .grains) (q - 2 * i .0 .at)) _ (j .2) in
-    subst (λ (t : Plan). after m t Table ≡ m Table) (plan-checked m (k .0) (k .2))
-    (left-alone m (k .0) (ends-gives Tags m (resizeScript n c q p a (i .0 .at) (i .0 .grains) (q - 2 * i .0 .at)) (resize-tags n c q p a (i .0 .at) (i .0 .grains) (q - 2 * i .0 .at)) (k .1)))
+    let s = resizeScript n c q p a (i .0 .at) (i .0 .grains) (q - 2 * i .0 .at) in
+    let k = inv-bind m s _ (j .2) in
+    subst (λ (t : Plan). Untouched Table (writes t)) (plan-checked m (k .0) (k .2))
+    (deed-untouched m (k .0) (ends-gives Tags m s (resize-tags n c q p a (i .0 .at) (i .0 .grains) (q - 2 * i .0 .at)) (k .1)))
+
+-- so it is afterwards as it was
+pub allocate-table : (n c p a : ℕ) (m : Memory) (t : Plan) → Gives m (allocateScript n c p a) t → after m t Table ≡ m Table
+allocate-table n c p a m t g = apply-untouched m (writes t) Table (allocate-untouched n c p a m g)
+
+pub deallocate-table : (n c q : ℕ) (m : Memory) (t : Plan) → Gives m (deallocateScript n c q) t → after m t Table ≡ m Table
+deallocate-table n c q m t g = apply-untouched m (writes t) Table (deallocate-untouched n c q m g)
+
+pub reallocate-table : (n c q p a : ℕ) (m : Memory) (t : Plan) → Gives m (reallocateScript n c q p a) t → after m t Table ≡ m Table
+reallocate-table n c q p a m t g = apply-untouched m (writes t) Table (reallocate-untouched n c q p a m g)
+
+-- ---- a region
 
 pub region-table : (most behind n c g len : ℕ) (m : Memory) (t : Plan) → Gives m (regionScript most behind n c g len) t → after m t Table 0 ≡ suc (m Table 0)
 unfolding regionScript

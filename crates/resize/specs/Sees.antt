@@ -7,12 +7,9 @@ use Rattle.choice.specs.Choice.{eq-yes, eq-no, le-yes, le-no}
 use Rattle.definition.specs.Calls.{place, keeps}
 use Rattle.script.specs.Memory.{Memory}
 use Rattle.script.specs.Script.{Script, ok, no, run, goes, halts, gives-done, _>>=_, _>>_}
-use Rattle.machine.specs.Machine.{words, classes}
+use Rattle.machine.specs.Machine.{classes}
 use Rattle.plans.specs.Deeds.{Deed}
 use Rattle.plans.specs.Checks.{seeOwner, seeGuard, seeAfter, seeBefore, seeRest, seeJoin}
-use Rattle.plans.specs.Checked.{owner-checked}
-use Rattle.plans.specs.StorableParts.{after-ready, before-ready}
-use Rattle.plans.specs.StorableCalls.{owner-inside}
 use Rattle.plans.specs.Allocate.{Taken, seeTaken}
 use Rattle.plans.specs.Reallocate.{stayDeed, stretchDeed, downDeed, elsewhereDeed, elsewhereScript, downScript, moveScript, stretchScript, resizeScript}
 use Rattle.entries.specs.Answers.{verdict}
@@ -41,12 +38,6 @@ module _ (m : Memory) (n : ℕ) where
       unfolding seeResized
       owner-found = goes m (seeOwner n q) _ h
 
-      pub owner-holds : (0 < s) × (x + s < n) × (2 * x ≤ q) × (q - 2 * x ≤ 2 * s)
-      owner-holds =
-          let o = owner-checked m n q h in
-          let i = owner-inside m n q (record { at = x; grains = s }) o in
-          (omega (arith, o .some), o .ends, i .0, i .1 .within)
-
     -- ---- its guard, and its size
 
     module _ (x s : ℕ) where
@@ -67,9 +58,6 @@ module _ (m : Memory) (n : ℕ) where
           pub after-found : (b : ℕ) → run m (seeAfter n classes (x + s)) ≡ ok b → run m (block n q p u x s) ≡ run m (stretchScript n classes q p u x s (q - 2 * x) b)
           unfolding block resizeScript
           after-found b k = goes m (seeGuard x) _ h ∙ ap (run m) (eq-no (keeps (q - 2 * x) p) s _ _ e) ∙ goes m (seeAfter n classes (x + s)) _ k
-
-      pub after-holds : (b : ℕ) → run m (seeAfter n classes (x + s)) ≡ ok b → x + s + b < n
-      after-holds b k = after-ready n classes words m (x + s) k .0
 
   -- ---- in place
 
@@ -102,9 +90,6 @@ module _ (m : Memory) (n : ℕ) where
       pub before-some : (a ≡ 0 → ⊥) → run m (moveScript n classes p u x s d b) ≡ run m (downScript n classes p u x s d a b)
       unfolding moveScript
       before-some e = goes m (seeBefore n classes x) _ h ∙ ap (run m) (eq-no a 0 _ _ e)
-
-      pub before-holds : x < n → a ≤ x
-      before-holds i = before-ready n classes words m x i h .0
 
     module _ (a : ℕ) where
       -- ---- downwards

@@ -99,6 +99,14 @@ alike m (first n x k) f h e = alike m (k (firstSet (m Mark) n x)) f h e
 alike m (done a) f h e = e a
 alike m (stop r) f h e = refl
 
+-- steps in other brackets
+pub bind-assoc : {A B C : Type 0} (m : Memory) (s : Script A) (f : A → Script B) (g : B → Script C) → run m ((s >>= f) >>= g) ≡ run m (s >>= λ x. f x >>= g)
+unfolding run
+bind-assoc m (read d y k) f g = bind-assoc m (k (m d y)) f g
+bind-assoc m (first n x k) f g = bind-assoc m (k (firstSet (m Mark) n x)) f g
+bind-assoc m (done x) f g = refl
+bind-assoc m (stop r) f g = refl
+
 pub gives-bind : {A B : Type 0} (m : Memory) (s : Script A) (f : A → Script B) {a : A} {b : B} → Gives m s a → Gives m (f a) b → Gives m (s >>= f) b
 gives-bind m s f h g = goes m s f h ∙ g
 

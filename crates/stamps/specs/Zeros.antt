@@ -1,4 +1,4 @@
--- A table with nothing but 0 in it (`Zeros`), and how a loop makes it so, entry by entry (`ZerosTo`).
+-- How a loop makes a table one of zeros, entry by entry (`ZerosTo`).
 use Prim.Native.Nat.{ℕ, _+_, _≤_, _<_}
 use native.Mathlib.Omega.{arith}
 use mathlib.Core.Path.{_≡_, refl, _∙_}
@@ -7,11 +7,7 @@ use mathlib.Core.Logic.{⊎-elim}
 use lib.ListN.{length, List·getD-eq-default}
 use Rattle.choice.specs.Choice.{le?}
 use Rattle.table.specs.Table.{entry, enter, enter-length, entry-enter, entry-other}
-
--- as long as it was, and 0 in every entry
-pub record Zeros (t₀ t : List ℕ) : Type 0 where
-  pub size : length t ≡ length t₀
-  pub zero : (i : ℕ) → entry t i ≡ 0
+use Rattle.lent.specs.Empty.{Zeros}
 
 -- as long as it was, and 0 in the first j entries
 pub record ZerosTo (t₀ t : List ℕ) (j : ℕ) : Type 0 where

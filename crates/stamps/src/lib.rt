@@ -10,7 +10,7 @@ ghost use Rattle.machine.specs.Machine.{piece};
 ghost use Rattle.tags.specs.Tag.{Tag};
 ghost use Rattle.tags.specs.Writes.{layPadTags, clearPadTags, layFreeTags, splitTags, clearAfterTags, clearBeforeTags, clearRoomTags, allocateTags, deallocateTags, stretchTags, downTags, pieceTags};
 ghost use Rattle.stamps.specs.Stores.{tagStores};
-ghost use Rattle.stamps.specs.Zeros.{Zeros};
+ghost use Rattle.lent.specs.Empty.{Zeros};
 ghost use Rattle.stamps.specs.Initial.{Initial};
 ghost use Rattle.stamps.specs.Bounds.{CanLayFree, CanSplit, CanAllocate, CanDeallocate, CanStretch, CanDown, CanLayPiece};
 

@@ -1,8 +1,8 @@
 -- The checks of deallocate as one script, whose answer is all that the deed depends on.
 use Prim.Native.Nat.{ℕ, _+_, _-_, _*_}
-use mathlib.Core.Path.{_≡_, refl, sym, _∙_}
+use mathlib.Core.Path.{_≡_, sym, _∙_}
 use Rattle.script.specs.Memory.{Memory}
-use Rattle.script.specs.Script.{Script, ok, no, read, first, done, stop, run, _>>=_, _>>_, goes, halts, alike}
+use Rattle.script.specs.Script.{Script, ok, no, done, run, _>>=_, _>>_, goes, halts, alike, bind-assoc}
 use Rattle.plans.specs.Deeds.{Deed, Plan, planOf, planScript}
 use Rattle.plans.specs.Checks.{seeOwner, seeGuard, seeAfter, seeBefore, seeJoin}
 use Rattle.plans.specs.Planned.{plan-gives}
@@ -45,29 +45,22 @@ abbrev freeing : ℕ → Freed → Script Plan
 freeing q f = planScript (freedDeed q f)
 
 module _ (m : Memory) where
-  assoc : {A B C : Type 0} (s : Script A) (f : A → Script B) (g : B → Script C) → run m ((s >>= f) >>= g) ≡ run m (s >>= λ x. f x >>= g)
-  unfolding run
-  assoc (read d y k) f g = assoc (k (m d y)) f g
-  assoc (first n x k) f g = assoc (k _) f g
-  assoc (done x) f g = refl
-  assoc (stop r) f g = refl
-
   module _ (n c q : ℕ) where
     joined-then : (x s b : ℕ) → run m (joined n c x s b >>= freeing q)
         ≡ run m (seeBefore n c x >>= λ a. seeJoin n c (a + (s + b)) >> planScript (deallocateDeed x s (q - 2 * x) a b))
     unfolding joined
-    joined-then x s b = assoc (seeBefore n c x) _ (freeing q) ∙ alike m (seeBefore n c x) _ _ (λ a. assoc (seeJoin n c (a + (s + b))) _ (freeing q))
+    joined-then x s b = bind-assoc m (seeBefore n c x) _ (freeing q) ∙ alike m (seeBefore n c x) _ _ (λ a. bind-assoc m (seeJoin n c (a + (s + b))) _ (freeing q))
 
     sides-then : (x s : ℕ) → run m (sides n c x s >>= freeing q)
         ≡ run m (seeGuard x >> (seeAfter n c (x + s) >>= λ b. seeBefore n c x >>= λ a. seeJoin n c (a + (s + b)) >> planScript (deallocateDeed x s (q - 2 * x) a b)))
     unfolding sides
     sides-then x s =
-        assoc (seeGuard x) _ (freeing q)
-        ∙ alike m (seeGuard x) _ _ (λ _. assoc (seeAfter n c (x + s)) _ (freeing q) ∙ alike m (seeAfter n c (x + s)) _ _ (λ b. joined-then x s b))
+        bind-assoc m (seeGuard x) _ (freeing q)
+        ∙ alike m (seeGuard x) _ _ (λ _. bind-assoc m (seeAfter n c (x + s)) _ (freeing q) ∙ alike m (seeAfter n c (x + s)) _ _ (λ b. joined-then x s b))
 
     returned-then : run m (deallocateScript n c q) ≡ run m (seeReturned n c q >>= freeing q)
     unfolding deallocateScript seeReturned
-    returned-then = sym (assoc (seeOwner n q) _ (freeing q) ∙ alike m (seeOwner n q) _ _ (λ o. sides-then (o .at) (o .grains)))
+    returned-then = sym (bind-assoc m (seeOwner n q) _ (freeing q) ∙ alike m (seeOwner n q) _ _ (λ o. sides-then (o .at) (o .grains)))
 
     -- a refusal, and a plan
     pub returned-refused : (i : ℕ) → run m (seeReturned n c q) ≡ no i → run m (deallocateScript n c q) ≡ no i

@@ -1,15 +1,11 @@
 -- The checks, step by step.
-use Prim.Native.Nat.{ℕ, _+_, _≤_, _<_}
-use native.Mathlib.Omega.{arith}
+use Prim.Native.Nat.{ℕ, _+_}
 use mathlib.Core.Path.{_≡_, _∙_}
 use mathlib.Core.Bool.{true, false}
 use Rattle.script.specs.Memory.{Memory}
 use Rattle.script.specs.Script.{ok, no, run, goes, halts, gives-done}
 use Rattle.machine.specs.Machine.{classes}
 use Rattle.plans.specs.Checks.{seeOwner, seeGuard, seeAfter, seeBefore, seeJoin}
-use Rattle.plans.specs.Checked.{owner-checked}
-use Rattle.plans.specs.StorableParts.{after-ready, before-ready}
-use Rattle.machine.specs.Machine.{words}
 use Rattle.lent.specs.Slices.{grains}
 use Rattle.entries.specs.Answers.{verdict}
 use Rattle.take_back.specs.Returned.{joined, sides, seeReturned}
@@ -24,9 +20,6 @@ module _ (m : Memory) (n : ℕ) where
   pub owner-found : (q x s : ℕ) → run m (seeOwner n q) ≡ ok (record { at = x; grains = s }) → run m (seeReturned n classes q) ≡ run m (sides n classes x s)
   unfolding seeReturned
   owner-found q x s h = goes m (seeOwner n q) _ h
-
-  pub owner-holds : (q x s : ℕ) → run m (seeOwner n q) ≡ ok (record { at = x; grains = s }) → (0 < s) × (x + s < n)
-  owner-holds q x s h = let o = owner-checked m n q h in (omega (arith, o .some), o .ends)
 
   -- ---- its guard, and the block after it
 
@@ -44,9 +37,6 @@ module _ (m : Memory) (n : ℕ) where
       unfolding sides
       after-found b k = goes m (seeGuard x) _ h ∙ goes m (seeAfter n classes (x + s)) _ k
 
-    pub after-holds : (b : ℕ) → run m (seeAfter n classes (x + s)) ≡ ok b → x + s + b < n
-    after-holds b k = after-ready n classes words m (x + s) k .0
-
     -- ---- the block before it, and the list that all of it enters
 
     module _ (b : ℕ) where
@@ -55,9 +45,6 @@ module _ (m : Memory) (n : ℕ) where
       before-bad k = halts m (seeBefore n classes x) _ k
 
       module _ (a : ℕ) (k : run m (seeBefore n classes x) ≡ ok a) where
-        pub before-holds : x < n → a ≤ x
-        before-holds i = before-ready n classes words m x i k .0
-
         pub join-bad : run m (seeJoin n classes (a + (s + b))) ≡ verdict false → run m (joined n classes x s b) ≡ no 5
         unfolding joined
         join-bad j = goes m (seeBefore n classes x) _ k ∙ halts m (seeJoin n classes (a + (s + b))) _ j

@@ -9,7 +9,7 @@ ghost use Rattle.lent.specs.Slices.{grains as grainsOf};
 ghost use Rattle.entries.specs.Answers.{held, Enough};
 ghost use Rattle.deeds.specs.Does.{Does};
 ghost use Rattle.take_back.specs.Returned.{freedDeed, joined, sides, seeReturned};
-ghost use Rattle.take_back.specs.Answers.{returned, Refuses};
+ghost use Rattle.take_back.specs.Answers.{returned};
 ghost use Rattle.take_back.specs.Free.{CanFree};
 use beside::Owner;
 use entries::Found;
@@ -84,7 +84,7 @@ fn see_joined(a: &[u8], lists: &[u64], tags: &[u16], x: usize, s: usize, after: 
 
 // Nothing is returned, and why.
 fn refuse(why: u64) -> Returned
-    ensures { λ r. ⌜ Refuses why r ⌝ }
+    ensures { λ r. ⌜ r .refusal ≡ why ⌝ }
 {
     Returned {
         refusal: why,

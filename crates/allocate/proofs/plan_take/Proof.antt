@@ -7,7 +7,8 @@ use Rattle.align.specs.Align.{power-pos}
 use Rattle.class.specs.Class.{startOf, start-small}
 use Rattle.definition.specs.Calls.{wanted}
 use Rattle.invariants.specs.Placing.{wanted-some}
-use Rattle.allocate.specs.Plan.{wanted-counted, plan-large, plan-none, plan-damaged, plan-cut, plan-enough}
+use Rattle.invariants.specs.Placing.{wanted-counted}
+use Rattle.allocate.specs.Plan.{plan-large, plan-none, plan-damaged, plan-cut, plan-enough}
 use borrow.Author.Needs.{needs}
 use Rattle.allocate.proofs.plan_take.Statement.{statement}
 use Rattle.allocate.proofs.plan_take.Tie as tie

@@ -3,7 +3,7 @@ use mathlib.Core.Path.{ap, _∙_}
 use mathlib.Core.List.{[]}
 use Rattle.entries.specs.Answers.{told}
 use Rattle.beside.specs.Sides.{after-torn, after-whole}
-use Rattle.beside.specs.Leaving.{seen-some}
+use Rattle.beside.specs.Holds.{seen-some}
 use borrow.Author.Needs.{needs}
 use Rattle.beside.proofs.free_after.Statement.{statement}
 use Rattle.beside.proofs.free_after.Tie as tie

@@ -11,8 +11,9 @@ use Rattle.script.specs.Script.{run}
 use Rattle.machine.specs.Machine.{classes}
 use Rattle.plans.specs.Checks.{seeRest}
 use Rattle.lent.specs.Slices.{grains}
-use Rattle.entries.specs.Answers.{held, verdict}
-use Rattle.hand_out.specs.Search.{refused-is, taken-is, cut-bad, cut-made}
+use Rattle.entries.specs.Answers.{held, verdict, refused-is, granted-is}
+use Rattle.hand_out.specs.Answers.{takenOf}
+use Rattle.hand_out.specs.Search.{cut-bad, cut-made}
 use borrow.Author.Needs.{needs}
 use Rattle.hand_out.proofs.see_cut.Statement.{statement}
 use Rattle.hand_out.proofs.see_cut.Tie as tie
@@ -42,7 +43,7 @@ returns c = λ g.
     let q = k .keeps-of .ensures ∙ ap (λ (d : ℕ). keeps d (s .args .length)) (p .place-of .ensures) in
     cut-bad (s .args .a .now) (s .args .lists .now) (s .args .tags .now) g (s .args .length) (s .args .multiple) (s .args .list) (s .args .block) (s .args .grains)
     (subst (λ (z : ℕ). run m (seeRest (grains (s .args .a .now)) classes (s .args .grains) z) ≡ verdict false) q (r .see-rest .ensures g ∙ ap verdict (not-true (r .see-rest .result) (e .if1 .taken))))
-    ∙ refused-is 5 (c .refuse .result) (omega arith) (c .refuse .ensures)
+    ∙ refused-is 5 (c .refuse .result .refusal) (takenOf (c .refuse .result)) (omega arith) (c .refuse .ensures)
 
 returns-2 : tie.Need-returns-2
 returns-2 c = λ g.
@@ -54,7 +55,7 @@ returns-2 c = λ g.
     let q = k .keeps-of .ensures ∙ ap (λ (d : ℕ). keeps d (s .args .length)) (p .place-of .ensures) in
     cut-made (s .args .a .now) (s .args .lists .now) (s .args .tags .now) g (s .args .length) (s .args .multiple) (s .args .list) (s .args .block) (s .args .grains)
     (subst (λ (z : ℕ). run m (seeRest (grains (s .args .a .now)) classes (s .args .grains) z) ≡ verdict true) q (r .see-rest .ensures g ∙ ap verdict (not-false (r .see-rest .result) (c .if1 .left))))
-    ∙ taken-is (record { refusal = 0; list = s .args .list; block = s .args .block; grains = s .args .grains }) refl
+    ∙ granted-is 0 (record { list = s .args .list; block = s .args .block; grains = s .args .grains }) refl
 
 pub see-cut-spec : {M : Type 1} → statement M
 see-cut-spec =

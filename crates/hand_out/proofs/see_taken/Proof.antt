@@ -6,11 +6,12 @@ use Prim.Native.Nat.{_+_, _-_, _/_, _<_}
 use Rattle.align.specs.Align.{power-pos}
 use Rattle.class.specs.Class.{startOf, start-small}
 use Rattle.definition.specs.Calls.{wanted}
+use Rattle.invariants.specs.Placing.{wanted-counted}
 use Rattle.machine.specs.Machine.{classes}
-use Rattle.entries.specs.Answers.{told}
-use Rattle.hand_out.specs.Demand.{wanted-counted}
+use Rattle.entries.specs.Answers.{told, refused-is}
+use Rattle.hand_out.specs.Answers.{takenOf}
 use Rattle.hand_out.specs.First.{first-holds}
-use Rattle.hand_out.specs.Search.{found, refused-is, search-large, search-none, search-bad, search-cut, found-enough}
+use Rattle.hand_out.specs.Search.{found, search-large, search-none, search-bad, search-cut, found-enough}
 use borrow.Author.Needs.{needs}
 use Rattle.hand_out.proofs.see_taken.Statement.{statement}
 use Rattle.hand_out.proofs.see_taken.Tie as tie
@@ -46,7 +47,7 @@ returns c = λ g.
     let e = c .before in
     let s = e .before .before .before .before in
     search-large (s .args .a .now) (s .args .lists .now) (s .args .tags .now) g (s .args .length) (s .args .multiple) (some s) (omega (arith, counted s, e .if1 .taken))
-    ∙ refused-is 1 (c .refuse .result) (omega arith) (c .refuse .ensures)
+    ∙ refused-is 1 (c .refuse .result .refusal) (takenOf (c .refuse .result)) (omega arith) (c .refuse .ensures)
 
 map-ceil-requires : tie.Need-map-ceil-requires
 map-ceil-requires c κs = search needs
@@ -66,7 +67,7 @@ returns-2 c = λ g.
     let f = e .before in
     let s = f .before .before .before .before .before .before in
     search-none (s .args .a .now) (s .args .lists .now) (s .args .tags .now) g (s .args .length) (s .args .multiple) (f .first-marked .result) (listed f) (e .if2 .taken)
-    ∙ refused-is 1 (c .refuse2 .result) (omega arith) (c .refuse2 .ensures)
+    ∙ refused-is 1 (c .refuse2 .result .refusal) (takenOf (c .refuse2 .result)) (omega arith) (c .refuse2 .ensures)
 
 head-requires : tie.Need-head-requires
 head-requires c κs = search needs
@@ -108,7 +109,7 @@ returns-3 c = λ g.
     let s = f .before .before .before .before .before .before in
     search-bad (s .args .a .now) (s .args .lists .now) (s .args .tags .now) g (s .args .length) (s .args .multiple) (f .first-marked .result) (listed f) (e .if2 .left) (h .head .result) (h .head .ensures)
     (v .see-first .ensures (s .args .lists .now) g ∙ ap told (o .enum-told .given .1))
-    ∙ refused-is 5 (c .refuse3 .result) (omega arith) (c .refuse3 .ensures)
+    ∙ refused-is 5 (c .refuse3 .result .refusal) (takenOf (c .refuse3 .result)) (omega arith) (c .refuse3 .ensures)
 
 returns-4 : tie.Need-returns-4
 returns-4 c = λ g.

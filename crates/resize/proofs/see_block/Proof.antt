@@ -1,10 +1,12 @@
 -- `resize::see_block`: each return is where the script ends.
+use Prim.Native.Nat.{_+_}
 use mathlib.Core.List.{[]}
 use mathlib.Core.Path.{ap, sym, _∙_}
 use borrow.Author.Tests.{not-true, not-false}
 use Rattle.lent.specs.Slices.{grains}
 use Rattle.entries.specs.Answers.{held, verdict, told}
-use Rattle.resize.specs.Sees.{guard-bad, size-same, after-bad, after-found, after-holds}
+use Rattle.beside.specs.Holds.{after-holds}
+use Rattle.resize.specs.Sees.{guard-bad, size-same, after-bad, after-found}
 use borrow.Author.Needs.{needs}
 use Rattle.resize.proofs.see_block.Statement.{statement}
 use Rattle.resize.proofs.see_block.Tie as tie
@@ -52,7 +54,7 @@ see-stretch-requires c κs =
     let f = c .before in
     let v = f .before .before in
     let s = v .before .before .before .before .before .before .before .before in
-    (s .pre .0, s .pre .1, s .pre .2, after-holds (held (s .args .a .now) (s .args .lists .now) (s .args .tags .now) []) (grains (s .args .a .now)) (s .args .q) (s .args .length) (s .args .multiple) (s .args .x) (s .args .s) (f .after .given .0 .0) (v .see-after .ensures [] ∙ ap told (f .after .given .1)), s .pre .4, s .pre .5)
+    (s .pre .0, s .pre .1, s .pre .2, after-holds (held (s .args .a .now) (s .args .lists .now) (s .args .tags .now) []) (grains (s .args .a .now)) (s .args .x + s .args .s) (f .after .given .0 .0) (v .see-after .ensures [] ∙ ap told (f .after .given .1)), s .pre .4, s .pre .5)
 
 returns-3 : tie.Need-returns-3
 returns-3 c = λ g.

@@ -5,7 +5,8 @@ use mathlib.Core.Path.{ap, _∙_}
 use Prim.Native.Nat.{_-_, _*_}
 use Rattle.lent.specs.Slices.{grains}
 use Rattle.entries.specs.Answers.{held, told}
-use Rattle.resize.specs.Sees.{before-bad, before-none, before-some, before-holds}
+use Rattle.beside.specs.Holds.{before-holds}
+use Rattle.resize.specs.Sees.{before-bad, before-none, before-some}
 use borrow.Author.Needs.{needs}
 use Rattle.resize.proofs.see_move.Statement.{statement}
 use Rattle.resize.proofs.see_move.Tie as tie
@@ -39,7 +40,7 @@ see-down-requires c κs =
       s .pre .1,
       s .pre .2,
       s .pre .3,
-      before-holds (held (s .args .a .now) (s .args .lists .now) (s .args .tags .now) []) (grains (s .args .a .now)) (s .args .length) (s .args .multiple) (s .args .x) (s .args .s) (s .args .q - 2 * s .args .x) (s .args .after) (k .before2 .given .0 .0) (v .see-before .ensures [] ∙ ap told (k .before2 .given .1)) (omega (arith, s .pre .3)),
+      before-holds (held (s .args .a .now) (s .args .lists .now) (s .args .tags .now) []) (grains (s .args .a .now)) (s .args .x) (k .before2 .given .0 .0) (v .see-before .ensures [] ∙ ap told (k .before2 .given .1)) (omega (arith, s .pre .3)),
     )
 
 returns-2 : tie.Need-returns-2

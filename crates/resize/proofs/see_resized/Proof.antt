@@ -4,7 +4,8 @@ use mathlib.Core.Path.{ap, _∙_}
 use Rattle.lent.specs.Slices.{grains}
 use Rattle.entries.specs.Answers.{held}
 use Rattle.beside.specs.Answers.{toldOwner}
-use Rattle.resize.specs.Sees.{owner-refused, owner-found, owner-holds}
+use Rattle.beside.specs.Holds.{owner-holds}
+use Rattle.resize.specs.Sees.{owner-refused, owner-found}
 use borrow.Author.Needs.{needs}
 use Rattle.resize.proofs.see_resized.Statement.{statement}
 use Rattle.resize.proofs.see_resized.Tie as tie
@@ -26,7 +27,7 @@ see-block-requires c κs =
     let k = c .before in
     let o = k .before .before in
     let s = o .before .before .before .before in
-    let h = owner-holds (held (s .args .a .now) (s .args .lists .now) (s .args .tags .now) []) (grains (s .args .a .now)) (s .args .q) (s .args .length) (s .args .multiple) (k .x .given .0 .0) (k .x .given .0 .1 .0) (o .see-owner .ensures (s .args .lists .now) [] ∙ ap toldOwner (k .x .given .1)) in
+    let h = owner-holds (held (s .args .a .now) (s .args .lists .now) (s .args .tags .now) []) (grains (s .args .a .now)) (s .args .q) (k .x .given .0 .0) (k .x .given .0 .1 .0) (o .see-owner .ensures (s .args .lists .now) [] ∙ ap toldOwner (k .x .given .1)) in
     (s .pre .0, s .pre .1, h .0, h .1, h .2, h .3)
 
 returns : tie.Need-returns

@@ -5,9 +5,10 @@ use mathlib.Core.Path.{refl, ap, _∙_}
 use borrow.Author.Tests.{not-true, not-false}
 use Rattle.lent.specs.Slices.{grains}
 use Rattle.lent.specs.Shown.{grains-below}
-use Rattle.entries.specs.Answers.{held, verdict, told}
-use Rattle.take_back.specs.Answers.{refused-is, freed-is}
-use Rattle.take_back.specs.Sees.{before-bad, before-holds, join-bad, join-found}
+use Rattle.entries.specs.Answers.{held, verdict, told, refused-is, granted-is}
+use Rattle.beside.specs.Holds.{before-holds}
+use Rattle.take_back.specs.Answers.{freedOf}
+use Rattle.take_back.specs.Sees.{before-bad, join-bad, join-found}
 use borrow.Author.Needs.{needs}
 use Rattle.take_back.proofs.see_joined.Statement.{statement}
 use Rattle.take_back.proofs.see_joined.Tie as tie
@@ -34,7 +35,7 @@ add-see-join-2 c =
     let s = v .before .before .before .before in
     omega (
       arith,
-      before-holds (held (s .args .a .now) (s .args .lists .now) (s .args .tags .now) []) (grains (s .args .a .now)) (s .args .x) (s .args .s) (s .args .after) (k .before2 .given .0 .0) (v .see-before .ensures [] ∙ ap told (k .before2 .given .1)) (omega (arith, s .pre .2)),
+      before-holds (held (s .args .a .now) (s .args .lists .now) (s .args .tags .now) []) (grains (s .args .a .now)) (s .args .x) (k .before2 .given .0 .0) (v .see-before .ensures [] ∙ ap told (k .before2 .given .1)) (omega (arith, s .pre .2)),
       s .pre .2,
       grains-below (s .args .a .now) (s .good .0 .0),
     )
@@ -54,14 +55,14 @@ returns c = λ g.
     let s = v .before .before .before .before in
     join-bad (held (s .args .a .now) (s .args .lists .now) (s .args .tags .now) g) (grains (s .args .a .now)) (s .args .x) (s .args .s) (s .args .after) (k .before2 .given .0 .0) (v .see-before .ensures g ∙ ap told (k .before2 .given .1))
     (j .see-join .ensures g ∙ ap verdict (not-true (j .see-join .result) (e .if1 .taken)))
-    ∙ refused-is 5 (c .refuse2 .result) (omega arith) (c .refuse2 .ensures)
+    ∙ refused-is 5 (c .refuse2 .result .refusal) (freedOf (c .refuse2 .result)) (omega arith) (c .refuse2 .ensures)
 
 returns-2 : tie.Need-returns-2
 returns-2 c = λ g.
     let t = c .before in
     let v = t .before .before in
     let s = v .before .before .before .before in
-    before-bad (held (s .args .a .now) (s .args .lists .now) (s .args .tags .now) g) (grains (s .args .a .now)) (s .args .x) (s .args .s) (s .args .after) (v .see-before .ensures g ∙ ap told (t .enum-told .given .1)) ∙ refused-is 5 (c .refuse .result) (omega arith) (c .refuse .ensures)
+    before-bad (held (s .args .a .now) (s .args .lists .now) (s .args .tags .now) g) (grains (s .args .a .now)) (s .args .x) (s .args .s) (s .args .after) (v .see-before .ensures g ∙ ap told (t .enum-told .given .1)) ∙ refused-is 5 (c .refuse .result .refusal) (freedOf (c .refuse .result)) (omega arith) (c .refuse .ensures)
 
 returns-3 : tie.Need-returns-3
 returns-3 c = λ g.
@@ -71,7 +72,7 @@ returns-3 c = λ g.
     let s = v .before .before .before .before in
     join-found (held (s .args .a .now) (s .args .lists .now) (s .args .tags .now) g) (grains (s .args .a .now)) (s .args .x) (s .args .s) (s .args .after) (k .before2 .given .0 .0) (v .see-before .ensures g ∙ ap told (k .before2 .given .1))
     (j .see-join .ensures g ∙ ap verdict (not-false (j .see-join .result) (c .if1 .left)))
-    ∙ freed-is (record { refusal = 0; at = s .args .x; grains = s .args .s; before = k .before2 .given .0 .0; after = s .args .after }) refl
+    ∙ granted-is 0 (record { at = s .args .x; grains = s .args .s; before = k .before2 .given .0 .0; after = s .args .after }) refl
 
 pub see-joined-spec : {M : Type 1} → statement M
 see-joined-spec =

@@ -3,10 +3,11 @@ use native.Mathlib.Omega.{arith}
 use mathlib.Core.List.{[]}
 use mathlib.Core.Path.{ap, _∙_}
 use Rattle.lent.specs.Slices.{grains}
-use Rattle.entries.specs.Answers.{held}
+use Rattle.entries.specs.Answers.{held, refused-is}
 use Rattle.beside.specs.Answers.{toldOwner}
-use Rattle.take_back.specs.Answers.{refused-is}
-use Rattle.take_back.specs.Sees.{owner-refused, owner-found, owner-holds}
+use Rattle.beside.specs.Holds.{owner-holds}
+use Rattle.take_back.specs.Answers.{freedOf}
+use Rattle.take_back.specs.Sees.{owner-refused, owner-found}
 use borrow.Author.Needs.{needs}
 use Rattle.take_back.proofs.see_returned.Statement.{statement}
 use Rattle.take_back.proofs.see_returned.Tie as tie
@@ -42,14 +43,14 @@ returns c = λ g.
     let t = c .before in
     let o = t .before .before in
     let s = o .before .before .before .before in
-    owner-refused (held (s .args .a .now) (s .args .lists .now) (s .args .tags .now) g) (grains (s .args .a .now)) (s .args .q) 3 (o .see-owner .ensures (s .args .lists .now) g ∙ ap toldOwner (t .enum-told .given .1)) ∙ refused-is 3 (c .refuse .result) (omega arith) (c .refuse .ensures)
+    owner-refused (held (s .args .a .now) (s .args .lists .now) (s .args .tags .now) g) (grains (s .args .a .now)) (s .args .q) 3 (o .see-owner .ensures (s .args .lists .now) g ∙ ap toldOwner (t .enum-told .given .1)) ∙ refused-is 3 (c .refuse .result .refusal) (freedOf (c .refuse .result)) (omega arith) (c .refuse .ensures)
 
 returns-2 : tie.Need-returns-2
 returns-2 c = λ g.
     let t = c .before in
     let o = t .before .before in
     let s = o .before .before .before .before in
-    owner-refused (held (s .args .a .now) (s .args .lists .now) (s .args .tags .now) g) (grains (s .args .a .now)) (s .args .q) 5 (o .see-owner .ensures (s .args .lists .now) g ∙ ap toldOwner (t .enum-told2 .given .1)) ∙ refused-is 5 (c .refuse2 .result) (omega arith) (c .refuse2 .ensures)
+    owner-refused (held (s .args .a .now) (s .args .lists .now) (s .args .tags .now) g) (grains (s .args .a .now)) (s .args .q) 5 (o .see-owner .ensures (s .args .lists .now) g ∙ ap toldOwner (t .enum-told2 .given .1)) ∙ refused-is 5 (c .refuse2 .result .refusal) (freedOf (c .refuse2 .result)) (omega arith) (c .refuse2 .ensures)
 
 returns-3 : tie.Need-returns-3
 returns-3 c = λ g.

@@ -1,12 +1,14 @@
 -- `take_back::see_sides`: each return is where the script ends.
+use Prim.Native.Nat.{_+_}
 use native.Mathlib.Omega.{arith}
 use mathlib.Core.List.{[]}
 use mathlib.Core.Path.{ap, _∙_}
 use borrow.Author.Tests.{not-true, not-false}
 use Rattle.lent.specs.Slices.{grains}
-use Rattle.entries.specs.Answers.{held, verdict, told}
-use Rattle.take_back.specs.Answers.{refused-is}
-use Rattle.take_back.specs.Sees.{guard-bad, after-bad, after-found, after-holds}
+use Rattle.entries.specs.Answers.{held, verdict, told, refused-is}
+use Rattle.beside.specs.Holds.{after-holds}
+use Rattle.take_back.specs.Answers.{freedOf}
+use Rattle.take_back.specs.Sees.{guard-bad, after-bad, after-found}
 use borrow.Author.Needs.{needs}
 use Rattle.take_back.proofs.see_sides.Statement.{statement}
 use Rattle.take_back.proofs.see_sides.Tie as tie
@@ -23,7 +25,7 @@ returns c = λ g.
     let d = e .before in
     let s = d .before .before .before .before in
     guard-bad (held (s .args .a .now) (s .args .lists .now) (s .args .tags .now) g) (grains (s .args .a .now)) (s .args .x) (s .args .s) (d .see-guard .ensures (s .args .lists .now) (s .args .tags .now) g ∙ ap verdict (not-true (d .see-guard .result) (e .if1 .taken)))
-    ∙ refused-is 5 (c .refuse .result) (omega arith) (c .refuse .ensures)
+    ∙ refused-is 5 (c .refuse .result .refusal) (freedOf (c .refuse .result)) (omega arith) (c .refuse .ensures)
 
 add-see-after : tie.Need-add-see-after
 add-see-after c = search needs
@@ -45,7 +47,7 @@ see-joined-requires c κs =
     let k = c .before in
     let v = k .before .before in
     let s = v .before .before .before .before .before .before in
-    (s .pre .0, s .pre .1, after-holds (held (s .args .a .now) (s .args .lists .now) (s .args .tags .now) []) (grains (s .args .a .now)) (s .args .x) (s .args .s) (k .after .given .0 .0) (v .see-after .ensures [] ∙ ap told (k .after .given .1)))
+    (s .pre .0, s .pre .1, after-holds (held (s .args .a .now) (s .args .lists .now) (s .args .tags .now) []) (grains (s .args .a .now)) (s .args .x + s .args .s) (k .after .given .0 .0) (v .see-after .ensures [] ∙ ap told (k .after .given .1)))
 
 returns-2 : tie.Need-returns-2
 returns-2 c = λ g.
@@ -56,7 +58,7 @@ returns-2 c = λ g.
     let s = d .before .before .before .before in
     after-bad (held (s .args .a .now) (s .args .lists .now) (s .args .tags .now) g) (grains (s .args .a .now)) (s .args .x) (s .args .s) (d .see-guard .ensures (s .args .lists .now) (s .args .tags .now) g ∙ ap verdict (not-false (d .see-guard .result) (e .if1 .left)))
     (v .see-after .ensures g ∙ ap told (t .enum-told .given .1))
-    ∙ refused-is 5 (c .refuse2 .result) (omega arith) (c .refuse2 .ensures)
+    ∙ refused-is 5 (c .refuse2 .result .refusal) (freedOf (c .refuse2 .result)) (omega arith) (c .refuse2 .ensures)
 
 returns-3 : tie.Need-returns-3
 returns-3 c = λ g.
