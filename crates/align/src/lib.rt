@@ -1,4 +1,7 @@
 // Alignments: the test for a power of two, and rounding up and down to a multiple of one.
+
+#![tactic(auto)]
+
 ghost use Rattle.std.specs.Prelude.{◌+◌, ◌<◌, ◌^◌};
 ghost use Rattle.choice.specs.Says.{Says};
 ghost use Rattle.align.specs.Align.{Power, Rounded, RoundedDown};

@@ -1,5 +1,8 @@
 // Taking a block: what a take found and will write, planned before anything is written. The arena, the map and the heads
 // of the lists are lent. Links are words: the bytes of a grain, or none.
+
+#![tactic(auto)]
+
 ghost use Rattle.std.specs.Prelude.{◌≡◌, ◌+◌, ◌≤◌, ◌<◌};
 ghost use Rattle.choice.specs.Says.{Says};
 ghost use Rattle.choice.specs.Choice.{if_eq};

@@ -1,4 +1,7 @@
 // The block of a live payload, and the free blocks beside a used one: each check is a script's, on the lent slices.
+
+#![tactic(auto)]
+
 ghost use Rattle.std.specs.Prelude.{◌≡◌, List, ℕ, ◌+◌, ◌/◌, ◌<◌, length};
 ghost use Rattle.script.specs.Script.{run};
 ghost use Rattle.machine.specs.Machine.{classes, piece};

@@ -1,5 +1,8 @@
 // Bits: of a word, of a table of words of any length, and of the map of the lists.
 // A search shifts or takes one word and counts the zeros below its lowest bit; there is no loop.
+
+#![tactic(auto)]
+
 ghost use Rattle.std.specs.Prelude.{◌≡◌, ◌+◌, ◌-◌, ◌*◌, ◌≤◌, ◌<◌, length};
 ghost use Rattle.choice.specs.Choice.{if_eq};
 ghost use Rattle.choice.specs.Says.{Says};

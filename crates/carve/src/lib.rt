@@ -1,5 +1,8 @@
 // What is written where a block is made: its size, the link to the block before in the block behind it, what is left of
 // it, and the pad before a payload of the large kind. Nothing is checked here: the plan was.
+
+#![tactic(auto)]
+
 ghost use Rattle.std.specs.Prelude.{◌≡◌, ◌+◌, ◌-◌, ◌/◌, ◌≤◌, ◌<◌};
 ghost use Rattle.sound.specs.Plans.{whole_writes, split_writes, pad_writes};
 ghost use Rattle.slices.specs.Decode.{grains};

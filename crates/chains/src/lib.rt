@@ -1,3 +1,5 @@
 // Definitions and laws alone, in specs/.
 
+#![tactic(auto)]
+
 pub fn nothing() {}

@@ -1,6 +1,9 @@
 // Runs rlsf's table of sizes (docs/CLASSES.md) through `map_floor` and `map_ceil`, then every size of a block, and
 // compares with a plain computation in bytes: the class by doubling 32, the list in it by what is left over.
 // Nothing but safety is proved of this program; it is there to see the proved functions run.
+
+#![tactic(auto)]
+
 ghost use Rattle.std.specs.Prelude.{◌≤◌, ◌<◌};
 
 const GRAIN: u64 = 32;

@@ -3,6 +3,9 @@
 //
 // They go by grains of 32 bytes, each of which is read whole before it is written: the compiler makes of it two loads and
 // two stores of 16 bytes, on x86-64 and aarch64. What is left is nothing or one half grain.
+
+#![tactic(auto)]
+
 ghost use Rattle.std.specs.Prelude.{◌≡◌, ◌+◌, ◌*◌, ◌≤◌, ◌<◌, length};
 ghost use Rattle.copy.specs.Moved.{moved, Moved, Ascends};
 

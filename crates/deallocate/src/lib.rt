@@ -1,5 +1,8 @@
 // The return of a block: its plan, which is read off the lent slices and checked before anything is written. A free
 // neighbour leaves its list, and the joined block goes to the head of the list of its size.
+
+#![tactic(auto)]
+
 ghost use Rattle.std.specs.Prelude.{◌≡◌, true, ◌+◌, ◌*◌, ◌≤◌, ◌<◌, length};
 ghost use Rattle.sound.specs.Plans.{join_script};
 ghost use Rattle.slices.specs.Decode.{grains};

@@ -1,4 +1,7 @@
 // The steps of a deed, made on the arena and the lists: neighbours leave their lists, and a rest enters one.
+
+#![tactic(auto)]
+
 ghost use Rattle.std.specs.Prelude.{◌≡◌, ◌+◌, ◌≤◌, ◌<◌};
 ghost use Rattle.machine.specs.Machine.{piece, words};
 ghost use Rattle.plans.specs.Allocate.{rest_steps};

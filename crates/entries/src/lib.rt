@@ -3,6 +3,9 @@
 //
 // Whether a block is its list's first, last or only one can't be predicted, and a jump that is predicted wrongly takes longer
 // than a check. So no jump depends on it: a value is chosen of two, or a block stands in for one that is missing.
+
+#![tactic(auto)]
+
 ghost use Rattle.std.specs.Prelude.{◌≡◌, List, ℕ, ◌+◌, ◌-◌, ◌≤◌, ◌<◌, length};
 ghost use Rattle.choice.specs.Choice.{if_eq};
 ghost use Rattle.choice.specs.Says.{Says};

@@ -1,5 +1,8 @@
 // The heap's calls for C: each slice is a pointer and a length, and each answer is one number. 1 to 6 are the refusals, and no
 // granted answer of a call is one of them. What is promised of each is what firmheap promises: specs/Answers.antt says how.
+
+#![tactic(auto)]
+
 ghost use Rattle.std.specs.Prelude.{◌≡◌, ◌+◌};
 ghost use Rattle.bits.specs.Map.{map_words, lists as list_count};
 ghost use Rattle.tables.specs.Length.{live_length};

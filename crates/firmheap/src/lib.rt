@@ -1,6 +1,9 @@
 // The heap's calls. The caller lends the arena and its tables; whatever is in them and whatever the numbers are, each call
 // returns, stays inside the slices, and does its work or refuses with a number; a refusal changes nothing. What is promised
 // of each is one record, in crates/calls/specs/Promises.antt.
+
+#![tactic(auto)]
+
 ghost use Rattle.std.specs.Prelude.{◌≡◌, ◌+◌};
 ghost use Rattle.bits.specs.Map.{map_words, lists as list_count};
 ghost use Rattle.tables.specs.Length.{live_length};

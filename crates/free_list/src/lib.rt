@@ -1,5 +1,8 @@
 // The free lists, as they stand in the lent slices: the links in the arena, the map and the heads in the table of the
 // lists. Links are words: the bytes of a grain, or none. What contradicts itself is found before anything is written.
+
+#![tactic(auto)]
+
 ghost use Rattle.std.specs.Prelude.{◌≡◌, ◌+◌, ◌*◌, ◌<◌};
 ghost use Rattle.choice.specs.Choice.{if_eq};
 ghost use Rattle.choice.specs.Says.{Says};

@@ -1,5 +1,8 @@
 // Giving a region, as a whole: its plan, which is read off the lent slices and checked before anything is written, and the
 // writes of a plan. Pieces are as long as a piece can be, but for the last one; what is left of one grain isn't used.
+
+#![tactic(auto)]
+
 ghost use Rattle.std.specs.Prelude.{◌≡◌, ◌+◌, ◌-◌, ◌*◌, ◌≤◌, ◌<◌, length};
 ghost use Rattle.choice.specs.Says.{Says};
 ghost use Rattle.class.specs.Class.{list_of};

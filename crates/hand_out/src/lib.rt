@@ -1,4 +1,7 @@
 // A block is handed out: it is found by checks alone, and then taken. A search that is refused has written nothing.
+
+#![tactic(auto)]
+
 ghost use Rattle.std.specs.Prelude.{◌≡◌, List, ℕ, ◌+◌, ◌*◌, ◌≤◌, ◌<◌, length as length_of};
 ghost use Rattle.choice.specs.Says.{Says};
 ghost use Rattle.definition.specs.Calls.{place as place_of, keeps};

@@ -1,5 +1,8 @@
 // The words of a header, as they stand in the arena, and what they say. A grain is 32 bytes, four words; word f of grain g
 // is word number 4 * g + f of the arena. No crate above this one knows a byte of it.
+
+#![tactic(auto)]
+
 ghost use Rattle.std.specs.Prelude.{◌≡◌, ◌+◌, ◌*◌, ◌<◌};
 ghost use Rattle.choice.specs.Says.{Says};
 ghost use Rattle.word.specs.Word.{word_at, put_at};

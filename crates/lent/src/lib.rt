@@ -1,5 +1,8 @@
 // The lent slices, one word at a time: tags, links, heads and marks, as they stand there. Links and heads are grain numbers.
 // A tag stands with its flags above its count, and is tested as it stands.
+
+#![tactic(auto)]
+
 ghost use Rattle.std.specs.Prelude.{◌≡◌, ◌+◌, ◌/◌, ◌%◌, ◌≤◌, ◌<◌, length};
 ghost use Rattle.choice.specs.Says.{Says};
 ghost use Rattle.table.specs.Table.{entry, enter};

@@ -1,4 +1,7 @@
 // The machine: its numbers, words read and written, and the words of a guard.
+
+#![tactic(auto)]
+
 ghost use Rattle.std.specs.Prelude.{◌≡◌, ◌+◌, ◌/◌, ◌<◌, ◌≤◌, length};
 ghost use Rattle.word.specs.Number.{num, puts};
 ghost use Rattle.machine.specs.Machine.{word_bytes, words, grain, guard_next, guard_prev};

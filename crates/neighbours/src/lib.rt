@@ -1,5 +1,8 @@
 // The block of a live payload, and the blocks beside a used one: everything that must hang together before a call writes.
 // Each check is a script's, carried out on the lent slices.
+
+#![tactic(auto)]
+
 ghost use Rattle.std.specs.Prelude.{◌≡◌, ◌+◌, ◌*◌, ◌%◌, ◌≤◌, ◌<◌, length};
 ghost use Rattle.slices.specs.Decode.{grains};
 ghost use Rattle.free_list.specs.Lent.{Long};

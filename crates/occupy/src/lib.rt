@@ -1,4 +1,7 @@
 // A planned take, carried out: the writes of its plan, in their order. Nothing else changes.
+
+#![tactic(auto)]
+
 ghost use Rattle.free_list.specs.Written.{WrittenLive};
 ghost use Rattle.occupy.specs.Taken.{Ready, taken_writes};
 

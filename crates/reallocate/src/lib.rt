@@ -1,6 +1,9 @@
 // A resize in half grains: in place, down into the free block before, or elsewhere; each step is planned and checked before
 // its first write. Only the return of the old block is checked after a write, the take's, which is undone where that return
 // is refused: so a refusal changes nothing.
+
+#![tactic(auto)]
+
 ghost use Rattle.std.specs.Prelude.{◌+◌, ◌*◌, ◌^◌, ◌≤◌, ◌<◌, length as length_of};
 ghost use Rattle.slices.specs.Decode.{grains};
 ghost use Rattle.free_list.specs.Lent.{Long};

@@ -1,6 +1,9 @@
 // Giving a region, in parts: the table of the regions is looked through, so that nothing is given twice; the pieces are laid
 // out; the region is entered in the table. Regions are counted in grains. An entry that can't be right is remembered, and not
 // refused before it is known that no entry overlaps.
+
+#![tactic(auto)]
+
 ghost use Rattle.std.specs.Prelude.{◌≡◌, ◌+◌, ◌*◌, ◌≤◌, ◌<◌, length};
 ghost use Rattle.choice.specs.Choice.{if_eq};
 ghost use Rattle.choice.specs.Says.{Says};

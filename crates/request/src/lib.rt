@@ -1,5 +1,8 @@
 // Requests: what a caller gives in bytes, turned into half grains and grains, or refused where it is out of range.
 // An alignment is a power of two, so no function divides by one: what is beyond a multiple is cut out by a mask.
+
+#![tactic(auto)]
+
 ghost use Rattle.std.specs.Prelude.{◌≡◌, ◌+◌, ◌-◌, ◌*◌, ◌<◌, ◌^◌};
 ghost use Rattle.choice.specs.Says.{Says};
 ghost use Rattle.align.specs.Align.{Power};

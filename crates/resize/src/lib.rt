@@ -1,5 +1,8 @@
 // A payload gets another size: in place, downwards into a free block before it, or elsewhere. Which of them is found by
 // checks alone; a resize that is refused has written nothing.
+
+#![tactic(auto)]
+
 ghost use Rattle.std.specs.Prelude.{◌≡◌, List, ℕ, ◌+◌, ◌-◌, ◌*◌, ◌≤◌, ◌<◌};
 ghost use Rattle.script.specs.Script.{run};
 ghost use Rattle.machine.specs.Machine.{classes};

@@ -2,6 +2,9 @@
 // are joined, the payload's place is counted anew from where they start, and what it doesn't need is left as a free block.
 // The plan is read off the lent slices and checked before anything is written; the bytes are carried by the caller, after
 // the neighbours left their lists and before the block is made.
+
+#![tactic(auto)]
+
 ghost use Rattle.std.specs.Prelude.{◌≡◌, ◌+◌, ◌*◌, ◌^◌, ◌≤◌, ◌<◌, length as length_of};
 ghost use Rattle.align.specs.Align.{Power};
 ghost use Rattle.slices.specs.Decode.{grains};

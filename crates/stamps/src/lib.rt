@@ -1,6 +1,9 @@
 // The tags that each change of the blocks writes, one after the other, as the lists of writes say. Nothing is checked here:
 // the plan was. A block of s grains stands at grain x; k grains become a used block, whose payload stands d half grains after
 // its start; a is the free room before the block, and b the free room after it.
+
+#![tactic(auto)]
+
 ghost use Rattle.std.specs.Prelude.{◌≡◌, [], ◌∷◌, ◌+◌, ◌/◌, ◌≤◌, ◌<◌, length};
 ghost use Rattle.script.specs.Memory.{◌at◌≔◌};
 ghost use Rattle.machine.specs.Machine.{piece};

@@ -1,6 +1,9 @@
 // The first two steps of a resize, which leave the payload where it is: a used block keeps fewer grains than it has, or
 // more. It swallows the free block behind it, and what it doesn't need is left as a free block. The plan is read off the
 // lent slices and checked before anything is written.
+
+#![tactic(auto)]
+
 ghost use Rattle.std.specs.Prelude.{◌≡◌, ◌+◌, ◌<◌};
 ghost use Rattle.sound.specs.Plans.{grow_script, stretch_script};
 ghost use Rattle.slices.specs.Decode.{grains};

@@ -1,4 +1,7 @@
 // Tables of numbers that the caller lends: one reader and one writer, under the names that their laws have.
+
+#![tactic(auto)]
+
 ghost use Rattle.std.specs.Prelude.{◌≡◌, ◌<◌, length};
 ghost use Rattle.table.specs.Table.{entry, enter};
 

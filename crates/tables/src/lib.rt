@@ -1,5 +1,8 @@
 // The tables that a caller lends: how long they must be, and the empty heap. The arena itself is left as it is: what was
 // not given is never read.
+
+#![tactic(auto)]
+
 ghost use Rattle.std.specs.Prelude.{◌≡◌, ◌+◌, ◌≤◌, length};
 ghost use Rattle.choice.specs.Says.{Says};
 ghost use Rattle.bits.specs.Map.{map_words, lists as list_count};

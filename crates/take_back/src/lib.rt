@@ -1,5 +1,8 @@
 // A payload is returned: its block and the free blocks beside it are found by checks alone, and then they become one free
 // block. A return that is refused has written nothing.
+
+#![tactic(auto)]
+
 ghost use Rattle.std.specs.Prelude.{◌≡◌, List, ℕ, ◌+◌, ◌<◌};
 ghost use Rattle.script.specs.Script.{run};
 ghost use Rattle.machine.specs.Machine.{classes};

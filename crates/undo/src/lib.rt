@@ -1,5 +1,8 @@
 // A take, undone: the words that it will write are saved before it, and put back where what is to come after it is refused.
 // Then every slice is as before. More is saved than some takes write, so that no case of them is followed here.
+
+#![tactic(auto)]
+
 ghost use Rattle.std.specs.Prelude.{◌≡◌, ◌+◌, ◌/◌, ◌<◌, length};
 ghost use Rattle.slices.specs.Decode.{grains};
 ghost use Rattle.free_list.specs.Lent.{Room, Leads};

@@ -3,6 +3,9 @@
 // A word is put together byte by byte, with no loop, so that the compiler sees one load or one store. This was checked
 // on the object code and is checked again by tools/word-code: it exports the four functions from a copy of this crate,
 // builds the static library, and looks with objdump that each is one `mov` between memory and a register, and `ret`.
+
+#![tactic(auto)]
+
 ghost use Rattle.std.specs.Prelude.{◌≡◌, ◌+◌, ◌≤◌, ◌<◌, ◌%◌, length, set};
 ghost use Rattle.word.specs.Number.{num, puts};
 ghost use Rattle.word.specs.Spelled.{four, eight, four_put, eight_put};

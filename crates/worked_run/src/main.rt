@@ -1,6 +1,9 @@
 // Makes the calls of docs/HEAP.md's worked run on the heap, and shows them: a line for each call, with its answer, the free
 // blocks after it, and a bar. Answers and free blocks are compared with the document's, and a difference is said.
 // Nothing but safety is proved of this program; it is there to see the proved calls run.
+
+#![tactic(auto)]
+
 mod blocks;
 mod line;
 mod rows;

@@ -1,0 +1,7 @@
+-- `machine::guard_next`: the sum that wraps is the guard word.
+use Rattle.machine.specs.Machine.{guard_next}
+use Rattle.machine.proofs.guard_next.Goals as goal
+
+pub returns : goal.returns
+unfolding guard_next
+returns c = c.wrapping_add_u64.ensures
