@@ -184,6 +184,6 @@ allocate_armoured n c p a m xs f t al o g =
       swaps = take_swaps n c p a m f l r s al o k.enough;
       defined = take_defined n c p a m f l r s al o k.enough;
       armoured = turns_armoured n c m _ _ h.blocks (take_turns n c p a m f l r s al o k.enough
-          (ready_append _ m (taken_steps p a _) [] (take_ready n c p a m f l r s al o k.enough h.blocks k.small k.next k.prev k.rest
+          (ready_append (link_bounds c (l ⟨⟩ free s ∷ r) h.blocks) m (taken_steps p a _) [] (take_ready n c p a m f l r s al o k.enough h.blocks k.small k.next k.prev k.rest
           (λ e. (_, rest_free (drop (list_of s) (total l) f) l r s _ (place a (total l)) e))) tt));
     }))

@@ -97,7 +97,7 @@ module _ (n c : ℕ) (m : Memory) (f : Lists) (l r : List Block) (s d : ℕ) (o 
   -- the neighbours leave their lists, whatever blocks there are afterwards
   pub beside_ready : (ys : List Block) → Beside c m (l ⟨⟩ used s d ∷ r) (total l + s) (room r) → Beside c m (l ⟨⟩ used s d ∷ r) (total l - room l) (room l)
       → Ready (link_bounds c (l ⟨⟩ used s d ∷ r) ys) m (beside_steps (total l) s (room l) (room r))
-  beside_ready ys a b = ready_append _ m (leave_steps (room r) (total l + s)) (leave_steps (room l) (total l - room l))
+  beside_ready ys a b = ready_append (link_bounds c (l ⟨⟩ used s d ∷ r) ys) m (leave_steps (room r) (total l + s)) (leave_steps (room l) (total l - room l))
       (leave_ready c m _ ys (total l + s) (room r) a) (leave_ready c m _ ys (total l - room l) (room l) b)
 
 -- T11 of deallocate

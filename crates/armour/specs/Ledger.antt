@@ -134,6 +134,7 @@ strike_in q e (g ∷ l) h = ⊎_elim
 
 pub strike_keeps : (q : ℕ) (e : Loan) (l : List Loan) → (e.payload ≡ q → ⊥) → In e l → In e (strike q l)
 unfolding strike
+strike_keeps q e [] ne x'' = elim x'' [ ]
 strike_keeps q e (g ∷ l) ne (inl k) = subst (In e) (sym (eq_no g.payload q (strike q l) (g ∷ strike q l) (λ z. ne (ap (λ (u : Loan). u.payload) k ∙ z)))) (inl k)
 strike_keeps q e (g ∷ l) ne (inr k) = ⊎_elim
     (λ (z : g.payload ≡ q). subst (In e) (sym (eq_yes g.payload q (strike q l) (g ∷ strike q l) z)) (strike_keeps q e l ne k))

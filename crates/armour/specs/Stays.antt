@@ -72,6 +72,7 @@ guard_kept m x (y ∷ l) h = guard_kept (apply m ((Next at y ≔ guard_next y) �
 
 -- and one that is written stands
 guard_set : (m : Memory) (x : ℕ) (l : List ℕ) → Mem x l → GuardStands (apply m (guard_writes l)) x
+guard_set m x [] x3 = elim x3 [ ]
 guard_set m x (y ∷ l) (inl e) = guard_kept (apply m ((Next at y ≔ guard_next y) ∷ (Prev at y ≔ guard_prev y) ∷ [])) x l
     (upd_same (m Next) y (guard_next y) x e ∙ ap guard_next (sym e), upd_same (m Prev) y (guard_prev y) x e ∙ ap guard_prev (sym e))
 guard_set m x (y ∷ l) (inr h) = guard_set (apply m ((Next at y ≔ guard_next y) ∷ (Prev at y ≔ guard_prev y) ∷ [])) x l h

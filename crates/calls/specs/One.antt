@@ -23,6 +23,8 @@ asks_one k K L follow follow = refl
 
 -- or is wrong
 pub asks_right : (k : ByteCall) (K : Call) (i : ℕ) → Asks k K → Wrong k i → ⊥
+asks_right _ _ i (give {n = n}) w = elim w [ ]
+asks_right _ _ i (follow {n = n}) w = elim w [ ]
 asks_right k K i (take r) (range n) = n r
 asks_right k K i (back s) (unsuited n) = n s.suits
 asks_right k K i (back s) (unkind u n) = n s.kind

@@ -78,10 +78,10 @@ module _ (nx pv : ℕ → ℕ) where
   tail_cut z y [] (u ∷ r) d c = (
     upd_same nx z u z refl,
     upd_same pv u z u refl,
-    tail_keep _ _ u r (λ v i. upd_other nx z u v (λ e. d.0 (inr (rw e at i)))) (λ v i. upd_other pv u z v (λ e. d.1.1.0 (rw e at i))) c.2.2,
+    tail_keep _ _ u r (λ v i. upd_other nx z u v (λ e. d.0 (inr (subst (λ (t : ℕ). Mem t (u ∷ r)) e i)))) (λ v i. upd_other pv u z v (λ e. d.1.1.0 (rw e at i))) c.2.2,
   )
   tail_cut z y (v ∷ l) r d c = (
-    upd_other nx _ _ z (λ e. d.0 (rw e (inner v l))) ∙ c.0,
+    upd_other nx _ _ z (λ e. d.0 (subst (λ (t : ℕ). Mem t (v ∷ l ++ y ∷ r)) (sym e) (inner v l))) ∙ c.0,
     upd_other pv _ _ v (λ e. d.1.0 (rw e (first_mem y l r))) ∙ c.1,
     tail_cut v y l r d.1 c.2,
   )
@@ -122,7 +122,7 @@ chain_leave m k y [] (u ∷ r) d c = (
   upd_same _ k _ k refl ∙ eq_no u y _ _ away ∙ c.0,
   upd_same _ k _ k refl ∙ eq_yes y y u _ refl,
   upd_same _ u _ u refl ∙ eq_yes y y u y refl,
-  tail_keep (m Next) (m Prev) _ _ u r (λ v i. upd_other (m Next) y _ v (λ e. d.0 (rw e at i))) (λ v i. upd_other (m Prev) u _ v (λ e. d.1.0 (rw e at i))) c.3.2,
+  tail_keep (m Next) (m Prev) _ _ u r (λ v i. upd_other (m Next) y _ v (λ e. d.0 (subst (λ (t : ℕ). Mem t (u ∷ r)) e i))) (λ v i. upd_other (m Prev) u _ v (λ e. d.1.0 (rw e at i))) c.3.2,
 )
   where
     away : u ≡ y → ⊥
@@ -149,7 +149,7 @@ chain_enter m k y (z ∷ l) d n c = (
   (
     upd_same _ y z y refl,
     upd_other _ y y z (λ e. n (inl (sym e))) ∙ upd_same _ z y z refl,
-    tail_keep (m Next) (m Prev) _ _ z l (λ v i. upd_other (m Next) y z v (λ e. n (rw e at i)))
+    tail_keep (m Next) (m Prev) _ _ z l (λ v i. upd_other (m Next) y z v (λ e. n (subst (λ (t : ℕ). Mem t (z ∷ l)) e i)))
         (λ v i. upd_other _ y y v (λ e. n (inr (rw e at i))) ∙ upd_other (m Prev) z y v (λ e. d.0 (rw e at i))) c.3,
   ),
 )

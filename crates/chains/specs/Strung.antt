@@ -44,7 +44,7 @@ module _ (m : Memory) (f : Lists) (o : Apiece f) (s : Strung m f) where
   pub strung_leave : (k y x p h b : ℕ) → Mem y (f k) → x ≡ m Next y → p ≡ m Prev y → h ≡ m Head k → b ≡ m Mark k → Strung (apply m (leave_writes k y x p h b)) (drop k y f)
   strung_leave k y x p h b i ex ep eh eb = rw (eh, eb) (upd_each (λ j l. Chain (apply m (leave_writes k y x p (m Head k) (m Mark k))) j l) f k (remove y (f k))
       (rw ((cut k y i).less, ex ∙ next_is_lem k y i, ep ∙ prev_is_lem k y i) (chain_leave m k y (cut k y i).front (cut k y i).back (single k y i) (chained k y i)))
-      (λ j n. chain_keep m _ j (f j) (upd_other _ k _ j n) (upd_other _ k _ j n)
+      (λ j n. chain_keep m (apply m (leave_writes k y x p (m Head k) (m Mark k))) j (f j) (upd_other _ k _ j n) (upd_other _ k _ j n)
       (λ u a. upd_other (m Next) p _ u (λ e. n (o.one j k u a (rw (e ∙ ep) (prev_mem k y i)))))
       (λ u a. upd_other (m Prev) x _ u (λ e. n (o.one j k u a (rw (e ∙ ex) (next_mem k y i))))) (s j)))
 
@@ -68,7 +68,7 @@ module _ (m : Memory) (f : Lists) (o : Apiece f) (s : Strung m f) where
   pub strung_enter : (k y t : ℕ) → ((j : ℕ) → Mem y (f j) → ⊥) → t ≡ next_of y (m Mark k) (m Head k) → Strung (apply m (enter_writes k y t)) (push k y f)
   strung_enter k y t new et = rw (et ∙ first_is k y) (upd_each (λ j l. Chain (apply m (enter_writes k y (first_or y (f k)))) j l) f k (y ∷ f k)
       (chain_enter m k y (f k) (o.once k) (new k) (s k))
-      (λ j n. chain_keep m _ j (f j) (upd_other _ k _ j n) (upd_other _ k _ j n)
+      (λ j n. chain_keep m (apply m (enter_writes k y (first_or y (f k)))) j (f j) (upd_other _ k _ j n) (upd_other _ k _ j n)
       (λ u a. upd_other (m Next) y _ u (λ e. new j (rw e at a)))
       (λ u a. upd_other _ y y u (λ e. new j (rw e at a)) ∙ upd_other (m Prev) _ y u (λ e. ⊎_elim
       (λ (q : first_or y (f k) ≡ y). new j (subst (λ (v : ℕ). Mem v (f j)) (e ∙ q) a)) (λ (q : Mem (first_or y (f k)) (f k)). n (o.one j k u a (rw e q))) (first_in k y))) (s j)))

@@ -1,7 +1,7 @@
 -- Which blocks stay where they are when a call changes the list of blocks: a used block, a sentinel and a gap (`Solid`)
 -- stays, whatever happens to the free blocks beside it. Every call changes one block in the middle, and swallows or
 -- leaves free blocks beside it; `swap` says it once for all of them.
-use Rattle.std.specs.Prelude.{ℕ, ◌+◌, ◌≡◌, List, ◌∷◌, ◌⊎◌}
+use Rattle.std.specs.Prelude.{ℕ, ◌+◌, ◌≡◌, List, ◌∷◌, ◌⊎◌, []}
 use Rattle.std.proofs.Common.{arith, add-zero, sym, subst, inl, inr}
 use Rattle.definition.specs.Blocks.{Block, free, used, last, gap, size, total, ◌⟨⟩◌, room, past}
 use Rattle.invariants.specs.Order.{BlockAt, LeftAt, at_split, at_join}
@@ -22,6 +22,7 @@ module _ (y : ℕ) (b : Block) (v : Solid b) where
   -- ---- a free block that stands first doesn't count
 
   pub left_solid : (l : List Block) → LeftAt y b l → LeftAt y b (past l)
+  left_solid [] h = elim h [ ]
   left_solid (free s ∷ l) (inl h) = absurd (solid_free b v h.1)
   left_solid (free s ∷ l) (inr h) = h
   left_solid (used s d ∷ l) h = h
@@ -29,12 +30,14 @@ module _ (y : ℕ) (b : Block) (v : Solid b) where
   left_solid (gap ∷ l) h = h
 
   pub left_solid_back : (l : List Block) → LeftAt y b (past l) → LeftAt y b l
+  left_solid_back [] h = elim h [ ]
   left_solid_back (free s ∷ l) h = inr h
   left_solid_back (used s d ∷ l) h = h
   left_solid_back (last ∷ l) h = h
   left_solid_back (gap ∷ l) h = h
 
   pub right_solid : (x : ℕ) (r : List Block) → BlockAt y b x r → BlockAt y b (x + room r) (past r)
+  right_solid x [] h = elim h [ ]
   right_solid x (free s ∷ r) (inl h) = absurd (solid_free b v h.1)
   right_solid x (free s ∷ r) (inr h) = h
   right_solid x (used s d ∷ r) h = rw (add-zero x) h
@@ -42,6 +45,7 @@ module _ (y : ℕ) (b : Block) (v : Solid b) where
   right_solid x (gap ∷ r) h = rw (add-zero x) h
 
   pub right_solid_back : (x : ℕ) (r : List Block) → BlockAt y b (x + room r) (past r) → BlockAt y b x r
+  right_solid_back x [] h = elim h [ ]
   right_solid_back x (free s ∷ r) h = inr h
   right_solid_back x (used s d ∷ r) h = rw (add-zero x) at h
   right_solid_back x (last ∷ r) h = rw (add-zero x) at h

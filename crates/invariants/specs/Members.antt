@@ -16,6 +16,7 @@ NoDup (y ∷ l) = (Mem y l → ⊥) × NoDup l
 
 pub mem_remove : (u y : ℕ) (l : List ℕ) → Mem u (remove y l) → Mem u l
 unfolding remove
+mem_remove u y [] h = elim h [ ]
 mem_remove u y (z ∷ l) h = ⊎_elim
     (λ e. inr (rw (eq_yes z y l (z ∷ remove y l) e) at h))
     (λ n. ⊎_elim (λ e. inl e) (λ m. inr (mem_remove u y l m)) (rw (eq_no z y l (z ∷ remove y l) n) at h))
@@ -23,6 +24,7 @@ mem_remove u y (z ∷ l) h = ⊎_elim
 
 pub mem_keep : (u y : ℕ) (l : List ℕ) → (u ≡ y → ⊥) → Mem u l → Mem u (remove y l)
 unfolding remove
+mem_keep u y [] ne h = elim h [ ]
 mem_keep u y (z ∷ l) ne h = ⊎_elim
     (λ e. rw (eq_yes z y l (z ∷ remove y l) e) (⊎_elim {C = Mem u l} (λ a. absurd (ne (a ∙ e))) (λ m. m) h))
     (λ n. rw (eq_no z y l (z ∷ remove y l) n) (⊎_elim {C = Mem u (z ∷ remove y l)} (λ a. inl a) (λ m. inr (mem_keep u y l ne m)) h))
@@ -38,6 +40,7 @@ nodup_remove y (z ∷ l) d = ⊎_elim
 
 pub gone : (y : ℕ) (l : List ℕ) → NoDup l → Mem y (remove y l) → ⊥
 unfolding remove
+gone y [] d h = elim h [ ]
 gone y (z ∷ l) d h = ⊎_elim
     (λ e. d.0 (rw e (rw (eq_yes z y l (z ∷ remove y l) e) at h)))
     (λ n. ⊎_elim (λ a. n (sym a)) (λ m. gone y l d.1 m) (rw (eq_no z y l (z ∷ remove y l) n) at h))
@@ -52,6 +55,7 @@ pub record Parts (y : ℕ) (l : List ℕ) : Type 0 where
 
 pub parts : (y : ℕ) (l : List ℕ) → NoDup l → Mem y l → Parts y l
 unfolding remove
+parts y [] d x'' = elim x'' [ ]
 parts y (z ∷ l) d (inl e) = record { front = []; back = l; is = rw e refl; less = eq_yes z y _ _ (sym e) }
 parts y (z ∷ l) d (inr h) =
     let p = parts y l d.1 h in

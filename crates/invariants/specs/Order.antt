@@ -113,6 +113,7 @@ at_split y c (b ∷ l) r h = go (at_split y c l (b ∷ r) h)
     go (inr (inr h)) = inr h
 
 pub at_join : (y : ℕ) (c : Block) (l r : List Block) → LeftAt y c l ⊎ BlockAt y c (total l) r → BlockAt y c 0 (l ⟨⟩ r)
+at_join y c [] r (inl x'') = elim x'' [ ]
 at_join y c [] r (inr h) = h
 at_join y c (b ∷ l) r (inl (inl h)) = at_join y c l (b ∷ r) (inr (inl h))
 at_join y c (b ∷ l) r (inl (inr h)) = at_join y c l (b ∷ r) (inl h)
@@ -122,24 +123,29 @@ pub at_here : (l r : List Block) (b : Block) → BlockAt (total l) b 0 (l ⟨⟩
 at_here l r b = at_join (total l) b l (b ∷ r) (inr (inl (refl, refl)))
 
 pub at_low : (y : ℕ) (c : Block) (x : ℕ) (r : List Block) → BlockAt y c x r → x ≤ y
+at_low y c x [] x3 = elim x3 [ ]
 at_low y c x (b ∷ r) (inl h) = omega (arith, h.0)
 at_low y c x (b ∷ r) (inr h) = omega (arith, at_low y c (x + size b) r h)
 
 -- a block before ends before
 pub left_high : (y : ℕ) (c : Block) (l : List Block) → LeftAt y c l → y + size c ≤ total l
+left_high y c [] x' = elim x' [ ]
 left_high y c (b ∷ l) (inl h) = omega (arith, h.0, ap size h.1)
 left_high y c (b ∷ l) (inr h) = omega (arith, left_high y c l h)
 
 -- and ends inside
 pub at_end_lem : (y : ℕ) (c : Block) (x : ℕ) (r : List Block) → BlockAt y c x r → y + size c ≤ x + total r
+at_end_lem y c x [] x3 = elim x3 [ ]
 at_end_lem y c x (b ∷ r) (inl h) = omega (arith, h.0, ap size h.1)
 at_end_lem y c x (b ∷ r) (inr h) = omega (arith, at_end_lem y c (x + size b) r h)
 
 pub at_whole : (y : ℕ) (c : Block) (x : ℕ) (a : Side) (r : List Block) → Ordered a r → BlockAt y c x r → Whole c
+at_whole y c x a [] w x4 = elim x4 [ ]
 at_whole y c x a (b ∷ r) w (inl h) = subst Whole h.1 w.1
 at_whole y c x a (b ∷ r) w (inr h) = at_whole y c (x + size b) (side b) r w.2 h
 
 pub left_whole : (y : ℕ) (c : Block) (l : List Block) → OrderedL l → LeftAt y c l → Whole c
+left_whole y c [] w x'' = elim x'' [ ]
 left_whole y c (b ∷ l) w (inl h) = subst Whole h.1 w.1
 left_whole y c (b ∷ l) w (inr h) = left_whole y c l w.2 h
 
@@ -154,6 +160,7 @@ pub record Stands (y : ℕ) (c : Block) (xs : List Block) : Type 0 where
   pub place : y ≡ total before
 
 stands : (y : ℕ) (c : Block) (l r : List Block) → BlockAt y c (total l) r → Stands y c (l ⟨⟩ r)
+stands y c l [] x' = elim x' [ ]
 stands y c l (b ∷ r) (inl h) = record { before = l; behind = r; whole = ap (λ (e : Block). l ⟨⟩ e ∷ r) h.1; place = h.0 }
 stands y c l (b ∷ r) (inr h) = stands y c (b ∷ l) r h
 
@@ -168,6 +175,7 @@ pub data Apart (x : ℕ) (b : Block) (y : ℕ) (c : Block) : Type 0 where
   behind : y + size c ≤ x → Apart x b y c
 
 pub apart : (x y p : ℕ) (b c : Block) (xs : List Block) → BlockAt x b p xs → BlockAt y c p xs → Apart x b y c
+apart x y p b c [] x3 _ = elim x3 [ ]
 apart x y p b c (d ∷ r) (inl h) (inl k) = same (h.0 ∙ sym k.0) (sym h.1 ∙ k.1)
 apart x y p b c (d ∷ r) (inl h) (inr k) = before (omega (arith, h.0, ap size h.1, at_low y c (p + size d) r k))
 apart x y p b c (d ∷ r) (inr h) (inl k) = behind (omega (arith, k.0, ap size k.1, at_low x b (p + size d) r h))

@@ -21,6 +21,7 @@ use Rattle.plans.specs.Deeds.{plan_of}
 use Rattle.plans.specs.Planned.{plan_gives, taken_checked}
 use Rattle.plans.specs.Allocate.{taken_steps, allocate_deed, see_taken, allocate_script}
 use Rattle.armour.specs.Row.{Sound}
+use Rattle.armour.specs.Turns.{link_bounds}
 use Rattle.armour.specs.Changed.{rest_free}
 use Rattle.armour.specs.Allocates.{first_at, handed, kept_some, kept_fits, take_ready, take_turns, taken_found}
 use Rattle.refines.specs.Sounds.{Grants, Meets, sound_after}
@@ -73,7 +74,7 @@ module _ (n c p a : ℕ) (m : Memory) (f : Lists) (l r : List Block) (s : ℕ) (
         gives = gives_bind m (see_taken n c p a) _ taken_here (plan_gives m (allocate_deed p a (first_at (total l) s)));
         answer = refl;
         sound = sound_after n c m h after (allocate_deed p a (first_at (total l) s)) o
-            (take_turns n c p a m f l r s al o.row enough (ready_append _ m w []
+            (take_turns n c p a m f l r s al o.row enough (ready_append (link_bounds c (l ⟨⟩ free s ∷ r) after.blocks) m w []
             (take_ready n c p a m f l r s al o.row enough after.blocks v.small v.next v.prev v.rest (λ ne. (_, rest_free (drop (list_of s) (total l) f) l r s kept (place a (total l)) ne))) tt))
             good (legal_append f w [] taken_legal tt) (λ k. ap (λ (g : Lists). g k) (lists_append f w [] ∙ taken_lists));
       }

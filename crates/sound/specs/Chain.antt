@@ -85,7 +85,7 @@ chain_unlink nx pv n w y [] m d nn n1 pv' q c =
     (λ z k e. q z (λ g. n1 (inr (rw g at k))) ∙ upd_same _ (nx y) (pv y) z e ∙ c.1)
     (λ z k g. q z (λ g. n1 (inr (rw g at k))) ∙ upd_other _ (nx y) (pv y) z g) c.2
 chain_unlink nx pv n w y (z ∷ l) m d nn n1 pv' q c = (
-  upd_other _ (last_or z l) (nx y) n (λ e. nn (rw e (last_mem z l (y ∷ m)))) ∙ c.0,
+  upd_other _ (last_or z l) (nx y) n (λ e. nn (subst (λ (i : ℕ). Mem i (z ∷ l ++ y ∷ m)) (sym e) (last_mem z l (y ∷ m)))) ∙ c.0,
   q z (λ g. n1 (inl (sym g))) ∙ upd_other _ (nx y) (pv y) z (λ e. ⊎_elim (λ g. n1 (inl (sym (e ∙ g)))) (λ k. d.0 (rw e k)) (next_is_lem nx pv z z y l m c.2)) ∙ c.1,
   chain_unlink nx pv z z y l m d.1 d.0 (λ k. n1 (inr k)) pv' q c.2,
 )
@@ -110,7 +110,7 @@ module _ (nx pv : ℕ → ℕ) (f : Lists) (o : Apiece f) (real : Real f) (h : L
       go [] c n1 = eq_yes (pv y) none _ _ c.1
       go (z ∷ l) c n1 =
           let e : pv y ≡ last_or z l = prev_is_lem nx pv (root k) none y (z ∷ l) p.back c in
-          eq_no (pv y) none _ _ (λ q. n1 (rw (sym q ∙ e) (last_mem z l (y ∷ p.back)))) ∙ e
+          eq_no (pv y) none _ _ (λ q. n1 (subst (λ (i : ℕ). Mem i (z ∷ l ++ y ∷ p.back)) (sym e ∙ q) (last_mem z l (y ∷ p.back)))) ∙ e
 
   pub node_mem : (k y : ℕ) → Mem y (f k) → (node k (pv y) ≡ root k) ⊎ Mem (node k (pv y)) (f k)
   node_mem k y m = let p = parts y (f k) (o.once k) m in go p.front p.back p.is (before_is k y p)

@@ -15,6 +15,7 @@ use Rattle.sound.specs.Sound.{Sound}
 
 -- it holds nothing else
 only_gaps : (n y x : ℕ) (b : Block) → BlockAt y b x (gaps n []) → gap ≡ b
+only_gaps zero y x b x3 = elim x3 [ ]
 only_gaps (suc n) y x b (inl h) = h.1
 only_gaps (suc n) y x b (inr h) = only_gaps n y (x + 1) b h
 

@@ -1,7 +1,7 @@
 -- Laying the pieces of a region: each piece keeps the memory founded, and so do all of them, as the definition lays them.
 use Rattle.std.specs.Prelude.{ℕ, zero, suc, ◌+◌, ◌-◌, ◌/◌, ◌^◌, ◌≤◌, ◌<◌, min, ◌≡◌, refl, List, [], ◌∷◌, ◌++◌, ◌⊎◌}
 use Rattle.std.proofs.Common.{arith, sym, ◌∙◌, subst, inl, inr, ⊎_elim}
-use Rattle.choice.specs.Choice.{if_le, le?, le_yes, le_no, upd_same, upd_other}
+use Rattle.choice.specs.Choice.{if_le, le?, le_yes, le_no, upd, upd_same, upd_other}
 use Rattle.class.specs.Class.{list_of}
 use Rattle.definition.specs.Blocks.{Block, free, used, last, gap, total, ◌⟨⟩◌, gaps}
 use Rattle.definition.specs.Lists.{Lists, push}
@@ -75,26 +75,28 @@ module _ (l r : List Block) (k : ℕ) (p : 2 ≤ k) where
   row_piece m o w =
       let x = total l in
       let s = k - 1 in
+      let u : ℕ → ℕ = upd (m Size) x (free_word s) in
+      let v : ℕ → ℕ = upd (m Before) x none in
       let z : Row (m Size) (m Before) 0 none (gaps k l ⟨⟩ r) = rw (gaps_zip k l r) w in
       let h = row_split (m Size) (m Before) (gaps k l) r z in
       let i = order_split l (gaps k r) o in
       let e : total (gaps k l) ≡ x + s + 1 = omega (arith, total_gaps k l) in
       let b : Row (m Size) (m Before) (x + s + 1) none r = rw (e, link_gaps k l (omega arith)) at h.1 in
-      row_join _ _ (last ∷ free s ∷ l) r (
-        (upd_same _ (x + s) last_word (x + s) refl, upd_same _ (x + s) x (x + s) refl),
+      row_join (upd u (x + s) last_word) (upd v (x + s) x) (last ∷ free s ∷ l) r (
+        (upd_same u (x + s) last_word (x + s) refl, upd_same v (x + s) x (x + s) refl),
         (
           (
-            upd_other _ (x + s) last_word x (omega arith) ∙ upd_same (m Size) x (free_word s) x refl,
-            upd_other _ (x + s) x x (omega arith) ∙ upd_same (m Before) x none x refl ∙ sym (link_out l (start_out k (omega arith) i.1)),
+            upd_other u (x + s) last_word x (omega arith) ∙ upd_same (m Size) x (free_word s) x refl,
+            upd_other v (x + s) x x (omega arith) ∙ upd_same (m Before) x none x refl ∙ sym (link_out l (start_out k (omega arith) i.1)),
           ),
-          left_keep (m Size) (m Before) _ _ l i.0
-              (λ y a. upd_other _ (x + s) last_word y (omega arith) ∙ upd_other (m Size) x (free_word s) y (omega arith))
-              (λ y a. upd_other _ (x + s) x y (omega arith) ∙ upd_other (m Before) x none y (omega arith)) (left_gaps (m Size) (m Before) k l h.0),
+          left_keep (m Size) (m Before) (upd u (x + s) last_word) (upd v (x + s) x) l i.0
+              (λ y a. upd_other u (x + s) last_word y (omega arith) ∙ upd_other (m Size) x (free_word s) y (omega arith))
+              (λ y a. upd_other v (x + s) x y (omega arith) ∙ upd_other (m Before) x none y (omega arith)) (left_gaps (m Size) (m Before) k l h.0),
         ),
       )
-      (row_keep (m Size) (m Before) _ _ (x + s + 1) none r
-      (λ y a. upd_other _ (x + s) last_word y (omega arith) ∙ upd_other (m Size) x (free_word s) y (omega arith))
-      (λ y a. upd_other _ (x + s) x y (omega arith) ∙ upd_other (m Before) x none y (omega arith)) b)
+      (row_keep (m Size) (m Before) (upd u (x + s) last_word) (upd v (x + s) x) (x + s + 1) none r
+      (λ y a. upd_other u (x + s) last_word y (omega arith) ∙ upd_other (m Size) x (free_word s) y (omega arith))
+      (λ y a. upd_other v (x + s) x y (omega arith) ∙ upd_other (m Before) x none y (omega arith)) b)
     where
       start_out : (k : ℕ) → 1 ≤ k → Ordered (side_l l) (gaps k r) → side_l l ≡ out
       start_out zero h o = absurd (omega arith)

@@ -123,6 +123,7 @@ follows m y p (last ∷ r) w h = record {
 
 -- a list with a member has a head, which stands behind nothing
 first_of : (nx pv : ℕ → ℕ) (n w y : ℕ) (l : List ℕ) → Chain nx pv n w l → Mem y l → Mem (nx n) l × (pv (nx n) ≡ w)
+first_of nx pv n w y [] c i = elim i [ ]
 first_of nx pv n w y (z ∷ l) c i = (inl c.0, ap pv c.0 ∙ c.1)
 
 module _ (n c : ℕ) (m : Memory) (h : Heap) (o : Sound n c m h) where

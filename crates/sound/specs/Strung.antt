@@ -77,7 +77,7 @@ module _ (m : Memory) (f : Lists) (o : Apiece f) (real : Real f) (s : Strung m f
 
       nothing_before : (l : List ℕ) → m Prev y ≡ last_or none l → (Mem none (l ++ y ∷ pt.back) → ⊥) → m Prev y ≡ none → l ≡ []
       nothing_before [] e n q = refl
-      nothing_before (z ∷ l) e n q = absurd (n (rw (sym q ∙ e) (last_mem z l (y ∷ pt.back))))
+      nothing_before (z ∷ l) e n q = absurd (n (subst (λ (i : ℕ). Mem i (z ∷ l ++ y ∷ pt.back)) (sym e ∙ q) (last_mem z l (y ∷ pt.back))))
 
       nothing_behind : (l : List ℕ) → Chain (m Next) (m Prev) y y l → (Mem none l → ⊥) → m Next y ≡ none → l ≡ []
       nothing_behind [] c n q = refl

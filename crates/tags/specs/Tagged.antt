@@ -26,6 +26,7 @@ module _ (t : ℕ → ℕ) where
 
   pub tagged_to : (x : ℕ) (r : List Block) → Tagged t x r → (y : ℕ) → y < total r → t (x + y) ≡ tag_at r y
   unfolding tag_at
+  tagged_to x [] h y k = elim k [ ]
   tagged_to x (b ∷ r) h y k = ⊎_elim
       (λ (q : suc y ≤ size b). h.0 y (omega arith) ∙ sym (le_yes (suc y) (size b) _ _ q))
       (λ (q : size b < suc y).
@@ -46,6 +47,7 @@ module _ (t : ℕ → ℕ) where
   -- ---- one block of the list
 
   pub tagged_at : (y : ℕ) (b : Block) (x : ℕ) (r : List Block) → Tagged t x r → BlockAt y b x r → Laid t y b
+  tagged_at y b x [] h x4 = elim x4 [ ]
   tagged_at y b x (c ∷ r) h (inl e) = subst (λ (c : Block). Laid t y c) e.1 (rw e.0 h.0)
   tagged_at y b x (c ∷ r) h (inr k) = tagged_at y b (x + size c) r h.1 k
 

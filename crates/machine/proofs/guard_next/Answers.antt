@@ -4,4 +4,4 @@ use Rattle.machine.proofs.guard_next.Goals as goal
 
 pub returns : goal.returns
 unfolding guard_next
-returns c = c.wrapping_add_u64.ensures
+returns c = c.wrapping_add_u64.ensures.value

@@ -4,4 +4,4 @@ use Rattle.machine.proofs.guard_prev.Goals as goal
 
 pub returns : goal.returns
 unfolding guard_prev
-returns c = c.wrapping_add_u64.ensures
+returns c = c.wrapping_add_u64.ensures.value
