@@ -36,6 +36,7 @@ strike_in x e (g ∷ l) h = ⊎_elim
 
 pub strike_keeps : (x : ℕ) (e : Loan) (l : List Loan) → (e.offset ≡ x → ⊥) → In e l → In e (strike x l)
 unfolding strike
+strike_keeps x e [] ne x3 = elim x3 [ ]
 strike_keeps x e (g ∷ l) ne (inl k) = subst (In e) (sym (eq_no g.offset x (strike x l) (g ∷ strike x l) (λ z. ne (ap (λ (u : Loan). u.offset) k ∙ z)))) (inl k)
 strike_keeps x e (g ∷ l) ne (inr k) = ⊎_elim
     (λ (z : g.offset ≡ x). subst (In e) (sym (eq_yes g.offset x (strike x l) (g ∷ strike x l) z)) (strike_keeps x e l ne k))

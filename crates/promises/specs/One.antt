@@ -24,6 +24,8 @@ asks_one k K L follow follow = refl
 
 -- or is wrong
 pub asks_right : (k : ByteCall) (K : Call) (i : ℕ) → Asks k K → Wrong k i → ⊥
+asks_right _ _ i (give {b = b} {n = n}) x4 = elim x4 [ ]
+asks_right _ _ i (follow {b = b} {n = n}) x5 = elim x5 [ ]
 asks_right k K i (take r) (range n) = n r
 asks_right k K i (back e) (between n) = n e
 asks_right k K i (resize r s) (resize_range n) = n r

@@ -109,11 +109,11 @@ module _ (S : Slices) (b n : ℕ) (r : Reply) (T : Slices) (p : Performs S (inse
   giving : AllLong S → Goes S (insert b n) (Insert (first_grain half b) (whole_grains half b n))
   giving l = record { long = (l.tables, l.some); asks = give }
 
-  too_short : (AllLong S → ⊥) → Early S (insert b n) 6
-  too_short m = short (λ l. m (record { tables = l.0; some = l.1 }))
+  too_short_insert : (AllLong S → ⊥) → Early S (insert b n) 6
+  too_short_insert m = short (λ l. m (record { tables = l.0; some = l.1 }))
 
   pub insert_full : (r ≡ not 6 → Full S) × (Full S → r ≡ not 6)
-  insert_full = full_exactly S (insert b n) (Insert g len) 0 g len refl giving too_short r T p
+  insert_full = full_exactly S (insert b n) (Insert g len) 0 g len refl giving too_short_insert r T p
 
   module _ (h : Heap) (o : Stand S h) (m : Full S → ⊥) where
     abbrev meets : memory_of S Table 0 < most_of S → Meets (grains_of S) classes (memory_of S) (region_script (most_of S) 0 (grains_of S) classes (first_grain half b) (whole_grains half b n)) (insert_of classes h (first_grain half b) (whole_grains half b n))
@@ -122,10 +122,10 @@ module _ (S : Slices) (b n : ℕ) (r : Reply) (T : Slices) (p : Performs S (inse
     pub bare_granted : Bare h.blocks g len → (i : ℕ) → r ≡ not i → ⊥
     bare_granted u i e =
         let s = gaps_spot g len h.blocks (omega (arith, u.two)) o.row.order u.gaps in
-        granted_never S (insert b n) (Insert g len) 0 g len refl giving too_short r T p h o m _ meets _ _ (insert_spot classes h g len o.row.order u.two s) i e
+        granted_never S (insert b n) (Insert g len) 0 g len refl giving too_short_insert r T p h o m _ meets _ _ (insert_spot classes h g len o.row.order u.two s) i e
 
     pub not_bare : (Bare h.blocks g len → ⊥) → r ≡ not 4
-    not_bare u = refused_4 S (insert b n) (Insert g len) 0 g len refl giving too_short r T p h o m _ meets
+    not_bare u = refused_4 S (insert b n) (Insert g len) 0 g len refl giving too_short_insert r T p h o m _ meets
         (insert_none classes h g len o.row.order (λ two s. u (record { two = two; gaps = spot_gap g len h.blocks s })))
 
 -- ---- append
@@ -145,6 +145,7 @@ ended_before g n xs o p u = ⊎_elim
     (at_split (g - 1) last p.before (gaps n p.rest) (subst (λ (t : List Block). BlockAt (g - 1) last 0 t) p.whole u.sentinel))
   where
     go : (b : List Block) → p.before ≡ b → OrderedL b → LeftAt (g - 1) last b → (l : List Block) × (p.before ≡ last ∷ l)
+    go [] e w x3 = elim x3 [ ]
     go (c ∷ l) e w (inl k) = (l, e ∙ ap (λ (c : Block). c ∷ l) k.1)
     go (c ∷ l) e w (inr k) = absurd (omega (arith, left_high (g - 1) last l k, p.place, ap total e, some c w.1, u.some))
 

@@ -1,0 +1,10 @@
+-- `stamps::clear_before`: no write, or two.
+use Rattle.stamps.specs.Stores.{nothing, then, where_same, where_other}
+use Rattle.stamps.proofs.clear_before.Goals as goal
+
+pub returns-then-a-eq0 : goal.returns-then-a-eq0
+returns-then-a-eq0 c = where_same _ _ _ _ _ _ c.if-a-eq0.true (nothing _)
+
+pub returns : goal.returns
+returns c =
+    where_other _ _ _ _ _ _ c.if-a-eq0.false (then _ _ _ _ _ c.clear.ensures c.clear-2.ensures)
