@@ -4,7 +4,6 @@ use mathlib.Core.Path.{◌≡◌, ap, sym, ◌∙◌}
 use mathlib.Core.Bool.{Bool, true, false}
 use mathlib.Core.List.{List}
 use lib.Dec.{eqb}
-use borrow.Author.Tests.{not-true, not-false}
 use Rattle.choice.specs.Says.{Says, says_yes, says_no}
 use Rattle.script.specs.Script.{run}
 use Rattle.plans.specs.Checks.{see_entry}
@@ -25,11 +24,11 @@ entered c r h g =
 
 -- a free block starts at its next
 next-begins : (c : Else-not-begins_free) → let s = c.args in Begins s.a.now s.tags.now c.next-next.result
-next-begins c = says_yes _ c.begins_free.result c.begins_free.ensures (not-false _ c.if-not-begins_free.false)
+next-begins c = says_yes _ c.begins_free.result c.begins_free.ensures c.if-not-begins_free.false
 
 -- and at its previous
 prev-begins : (c : Else-not-begins_free-2) → let s = c.args in Begins s.a.now s.tags.now c.prev-prev.result
-prev-begins c = says_yes _ c.begins_free-2.result c.begins_free-2.ensures (not-false _ c.if-not-begins_free-2.false)
+prev-begins c = says_yes _ c.begins_free-2.result c.begins_free-2.ensures c.if-not-begins_free-2.false
 
 -- whether y is the head
 placed : (c : After-choose-3) → let s = c.args in
@@ -40,7 +39,7 @@ placed c =
 
 pub returns-then-not-begins_free : goal.returns-then-not-begins_free
 returns-then-not-begins_free c =
-    entered (goal.at.returns-then-not-begins_free c).After-prev-prev false (λ p. says_no _ c.begins_free.result c.begins_free.ensures (not-true _ c.if-not-begins_free.true) p.0)
+    entered (goal.at.returns-then-not-begins_free c).After-prev-prev false (λ p. says_no _ c.begins_free.result c.begins_free.ensures c.if-not-begins_free.true p.0)
 
 pub prev-requires : goal.prev-requires
 prev-requires c = (next-begins (goal.at.prev-requires c).Else-not-begins_free).0
@@ -51,7 +50,7 @@ returns-then-prev-choose c =
 
 pub returns-then-not-begins_free-2 : goal.returns-then-not-begins_free-2
 returns-then-not-begins_free-2 c =
-    entered (goal.at.returns-then-not-begins_free-2 c).After-prev-prev false (λ p. says_no _ c.begins_free-2.result c.begins_free-2.ensures (not-true _ c.if-not-begins_free-2.true) p.1.1.0)
+    entered (goal.at.returns-then-not-begins_free-2 c).After-prev-prev false (λ p. says_no _ c.begins_free-2.result c.begins_free-2.ensures c.if-not-begins_free-2.true p.1.1.0)
 
 pub next-requires : goal.next-requires
 next-requires c = (prev-begins (goal.at.next-requires c).Else-not-begins_free-2).0
@@ -63,7 +62,7 @@ returns-then-next-choose c =
 pub returns-then-not-is_marked : goal.returns-then-not-is_marked
 returns-then-not-is_marked c =
     entered (goal.at.returns-then-not-is_marked c).After-prev-prev false
-    (λ p. says_no _ c.is_marked.result c.is_marked.ensures (not-true _ c.if-not-is_marked.true) p.1.1.1.1.0)
+    (λ p. says_no _ c.is_marked.result c.is_marked.ensures c.if-not-is_marked.true p.1.1.1.1.0)
 
 pub returns-then-choose : goal.returns-then-choose
 returns-then-choose c =
@@ -81,7 +80,7 @@ returns c =
           (
             sym c.next.ensures ∙ c.if-next-choose.false ∙ c.choose-2.ensures,
             (
-              says_yes _ c.is_marked.result c.is_marked.ensures (not-false _ c.if-not-is_marked.false),
+              says_yes _ c.is_marked.result c.is_marked.ensures c.if-not-is_marked.false,
               sym (placed (goal.at.returns c).After-choose-3) ∙ c.if-choose.false ∙ c.choose-4.ensures,
             ),
           ),

@@ -1,15 +1,16 @@
 -- `entries::see_free`: each return says of one step of the check that it is not passed, and the last of all that they are.
 use Prim.Native.Nat.{ℕ, ◌/◌, ◌≤◌, ◌<◌}
-use mathlib.Core.Path.{◌≡◌, ap, ◌∙◌, subst}
+use mathlib.Core.Path.{◌≡◌, refl, ap, sym, ◌∙◌, subst}
 use native.Mathlib.Omega.{arith}
-use borrow.Author.Tests.{not-false}
-use Rattle.choice.specs.Says.{says_yes}
+use Rattle.choice.specs.Says.{says_yes, says_no}
 use Rattle.machine.specs.Machine.{piece}
 use Rattle.tags.specs.Tag.{flags}
+use Rattle.tags.specs.Decode.{Busy}
 use Rattle.lent.specs.Slices.{tag_of}
 use Rattle.lent.specs.TagWords.{count_fits}
 use Rattle.lent.specs.Shown.{grains_below}
-use Rattle.entries.specs.Agrees.{entry_tag, FreeStart, Begins}
+use Rattle.entries.specs.Agrees.{entry_tag, FreeStart, FreeEnd, Begins}
+use Rattle.entries.specs.Seen.{whole_seen}
 use Rattle.entries.proofs.see_free.Goals as goal
 use Rattle.entries.proofs.see_free.Goals.{After-count-s}
 
@@ -22,25 +23,67 @@ begun : (c : After-count-s) → let s = c.args in Begins s.a.now s.tags.now s.x
 begun c =
     (
       omega (arith, c.if-n-x.false, c.grain_count-n.ensures),
-      subst (λ (v : ℕ). FreeStart (tag_of v)) c.tag-first.ensures (says_yes _ c.starts_free.result c.starts_free.ensures (not-false _ c.if-not-starts_free.false)),
+      subst (λ (v : ℕ). FreeStart (tag_of v)) c.tag-first.ensures (says_yes _ c.starts_free.result c.starts_free.ensures c.if-not-starts_free.false),
     )
 
 -- and has some grains
 some : (c : After-count-s) → 1 ≤ c.count-s.result
 some c =
     let sized : let s = c.args in c.count-s.result ≡ entry_tag s.tags.now s.x / flags = c.count-s.ensures ∙ ap (λ (v : ℕ). tag_of v / flags) c.tag-first.ensures in
-    let begun : let s = c.args in Begins s.a.now s.tags.now s.x = ( omega (arith, c.if-n-x.false, c.grain_count-n.ensures), subst (λ (v : ℕ). FreeStart (tag_of v)) c.tag-first.ensures (says_yes _ c.starts_free.result c.starts_free.ensures (not-false _ c.if-not-starts_free.false)), ) in omega (arith, sized, (begun).1.1)
+    let begun : let s = c.args in Begins s.a.now s.tags.now s.x = ( omega (arith, c.if-n-x.false, c.grain_count-n.ensures), subst (λ (v : ℕ). FreeStart (tag_of v)) c.tag-first.ensures (says_yes _ c.starts_free.result c.starts_free.ensures c.if-not-starts_free.false), ) in omega (arith, sized, (begun).1.1)
 
 -- fewer than a piece
 few : (c : After-count-s) → c.count-s.result < piece
 few c = omega (arith, c.count-s.ensures, count_fits c.tag-first.result (omega arith))
 
+pub returns-then-n-x : goal.returns-then-n-x
+returns-then-n-x c l g =
+    let s = c.args in
+    (whole_seen s.a.now l s.tags.now g s.x _ refl).refuses (λ p. omega (arith, p.0.0, c.if-n-x.true, c.grain_count-n.ensures))
+
+pub returns-then-not-starts_free : goal.returns-then-not-starts_free
+returns-then-not-starts_free c l g =
+    let s = c.args in
+    (whole_seen s.a.now l s.tags.now g s.x _ refl).refuses
+    (λ p. says_no _ c.starts_free.result c.starts_free.ensures c.if-not-starts_free.true (subst (λ (v : ℕ). FreeStart (tag_of v)) (sym c.tag-first.ensures) p.0.1))
+
 pub overflow_add-y : goal.overflow_add-y
 overflow_add-y c =
     omega (arith, few (goal.at.overflow_add-y c).After-count-s, c.if-n-x.false, c.grain_count-n.ensures, grains_below c.args.a.now c.well_formed.0.0)
+
+pub returns-then-n-y : goal.returns-then-n-y
+returns-then-n-y c l g =
+    let s = c.args in
+    (whole_seen s.a.now l s.tags.now g s.x _ (sized (goal.at.returns-then-n-y c).After-count-s)).refuses (λ p. omega (arith, p.1.0, c.if-n-y.true, c.grain_count-n.ensures))
 
 pub overflow_sub-y : goal.overflow_sub-y
 overflow_sub-y c = omega (arith, some (goal.at.overflow_sub-y c).After-count-s)
 
 pub ends_free-requires : goal.ends_free-requires
 ends_free-requires c = few (goal.at.ends_free-requires c).After-count-s
+
+pub returns-then-not-ends_free : goal.returns-then-not-ends_free
+returns-then-not-ends_free c l g =
+    let s = c.args in
+    (whole_seen s.a.now l s.tags.now g s.x _ (sized (goal.at.returns-then-not-ends_free c).After-count-s)).refuses
+    (λ p. says_no _ c.ends_free.result c.ends_free.ensures c.if-not-ends_free.true (subst (λ (v : ℕ). FreeEnd (tag_of v) c.count-s.result) (sym c.tag.ensures) p.1.1.0))
+
+pub returns-then-not-is_busy : goal.returns-then-not-is_busy
+returns-then-not-is_busy c l g =
+    let s = c.args in
+    (whole_seen s.a.now l s.tags.now g s.x _ (sized (goal.at.returns-then-not-is_busy c).After-count-s)).refuses
+    (λ p. says_no _ c.is_busy.result c.is_busy.ensures c.if-not-is_busy.true (subst (λ (v : ℕ). Busy (tag_of v)) (sym c.tag-2.ensures) p.1.1.1))
+
+pub returns : goal.returns
+returns c l g =
+    let s = c.args in
+    (whole_seen s.a.now l s.tags.now g s.x _ (sized (goal.at.returns c).After-count-s)).gives (
+      begun (goal.at.returns c).After-count-s,
+      (
+        omega (arith, c.if-n-y.false, c.grain_count-n.ensures),
+        (
+          subst (λ (v : ℕ). FreeEnd (tag_of v) c.count-s.result) c.tag.ensures (says_yes _ c.ends_free.result c.ends_free.ensures c.if-not-ends_free.false),
+          subst (λ (v : ℕ). Busy (tag_of v)) c.tag-2.ensures (says_yes _ c.is_busy.result c.is_busy.ensures c.if-not-is_busy.false),
+        ),
+      ),
+    )
