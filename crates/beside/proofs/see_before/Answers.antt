@@ -21,4 +21,4 @@ free_before-requires c =
 pub returns : goal.returns
 returns c g =
     before_free c.args.a.now c.args.lists.now c.args.tags.now g c.args.x c.if-x-eq0.false c.tag-tag.result c.tag-tag.ensures (says_yes _ c.has_free.result c.has_free.ensures c.if-not-has_free.false) c.count.result c.count.ensures
-    ∙ c.free_before_lem.ensures g
+    ∙ c.free_before.ensures g

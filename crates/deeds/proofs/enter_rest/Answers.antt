@@ -14,7 +14,7 @@ enter-requires c =
 
 pub returns-then-k-t : goal.returns-then-k-t
 returns-then-k-t c =
-    one_enters c.args.a.now c.args.lists.now c.args.x c.args.t c.args.k c.requires.0 c.if-k-t.true c.list_of.result c.list_of.ensures.0 c.enter.new.0 c.enter.new.1.0 c.enter.ensures
+    one_enters c.args.a.now c.args.lists.now c.args.x c.args.t c.args.k c.requires.0 c.if-k-t.true c.list_of.result c.list_of.ensures.0 c.enter.new.a c.enter.new.lists c.enter.ensures
 
 pub returns-else-k-t : goal.returns-else-k-t
 returns-else-k-t c =

@@ -8,7 +8,7 @@ leave-requires c =
 
 pub returns-then-t-ne0 : goal.returns-then-t-ne0
 returns-then-t-ne0 c =
-    one_leaves c.args.a.now c.args.lists.now c.args.t c.args.y c.requires.0 c.if-t-ne0.true c.list_of.result c.list_of.ensures.0 c.leave.new.0 c.leave.new.1.0 c.leave.ensures
+    one_leaves c.args.a.now c.args.lists.now c.args.t c.args.y c.requires.0 c.if-t-ne0.true c.list_of.result c.list_of.ensures.0 c.leave.new.a c.leave.new.lists c.leave.ensures
 
 pub returns-else-t-ne0 : goal.returns-else-t-ne0
 returns-else-t-ne0 c =

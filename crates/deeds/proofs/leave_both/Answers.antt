@@ -15,10 +15,10 @@ pub leave_beside-requires-2 : goal.leave_beside-requires-2
 leave_beside-requires-2 c =
     let u = leave_steps c.args.after (c.args.x + c.args.s) in
     let v = leave_steps c.args.before (c.args.x - c.args.before) in
-    (run_right u v c.args.a.now c.args.lists.now c.leave_beside.new.0 c.leave_beside.new.1.0 c.requires.0 c.leave_beside.ensures, c.requires.1)
+    (run_right u v c.args.a.now c.args.lists.now c.leave_beside.new.a c.leave_beside.new.lists c.requires.0 c.leave_beside.ensures, c.requires.1)
 
 pub returns : goal.returns
 returns c =
     let u = leave_steps c.args.after (c.args.x + c.args.s) in
     let v = leave_steps c.args.before (c.args.x - c.args.before) in
-    runs_more u v c.args.a.now c.args.lists.now c.leave_beside.new.0 c.leave_beside.new.1.0 c.requires.0 c.leave_beside.ensures c.leave_beside-2.new.0 c.leave_beside-2.new.1.0 c.leave_beside-2.ensures
+    runs_more u v c.args.a.now c.args.lists.now c.leave_beside.new.a c.leave_beside.new.lists c.requires.0 c.leave_beside.ensures c.leave_beside-2.new.a c.leave_beside-2.new.lists c.leave_beside-2.ensures
