@@ -3,7 +3,6 @@ use native.Mathlib.Omega.{arith}
 use mathlib.Core.Bool.{true, false}
 use mathlib.Core.Path.{◌≡◌, ap, refl, ◌∙◌, subst}
 use Prim.Native.Nat.{ℕ}
-use borrow.Author.Tests.{not-true, not-false}
 use Rattle.align.specs.Align.{power_pos}
 use Rattle.definition.specs.Calls.{keeps}
 use Rattle.invariants.specs.Placing.{place_most}
@@ -25,7 +24,7 @@ returns-then-not-see_rest c = λ g.
     let m = held c.args.a.now c.args.lists.now c.args.tags.now g in
     let q = c.keeps_of-keep.ensures ∙ ap (λ (d : ℕ). keeps d c.args.length) c.place_of.ensures in
     cut_bad c.args.a.now c.args.lists.now c.args.tags.now g c.args.length c.args.multiple c.args.list c.args.block c.args.grains
-    (subst (λ (z : ℕ). run m (see_rest (grains c.args.a.now) classes c.args.grains z) ≡ verdict false) q (c.see_rest.ensures g ∙ ap verdict (not-true c.see_rest.result c.if-not-see_rest.true)))
+    (subst (λ (z : ℕ). run m (see_rest (grains c.args.a.now) classes c.args.grains z) ≡ verdict false) q (c.see_rest.ensures g ∙ ap verdict c.if-not-see_rest.true))
     ∙ refused_is 5 c.refuse.result.refusal (taken_of c.refuse.result) (omega arith) c.refuse.ensures
 
 pub returns : goal.returns
@@ -33,5 +32,5 @@ returns c = λ g.
     let m = held c.args.a.now c.args.lists.now c.args.tags.now g in
     let q = c.keeps_of-keep.ensures ∙ ap (λ (d : ℕ). keeps d c.args.length) c.place_of.ensures in
     cut_made c.args.a.now c.args.lists.now c.args.tags.now g c.args.length c.args.multiple c.args.list c.args.block c.args.grains
-    (subst (λ (z : ℕ). run m (see_rest (grains c.args.a.now) classes c.args.grains z) ≡ verdict true) q (c.see_rest.ensures g ∙ ap verdict (not-false c.see_rest.result c.if-not-see_rest.false)))
+    (subst (λ (z : ℕ). run m (see_rest (grains c.args.a.now) classes c.args.grains z) ≡ verdict true) q (c.see_rest.ensures g ∙ ap verdict c.if-not-see_rest.false))
     ∙ granted_is 0 (record { list = c.args.list; block = c.args.block; grains = c.args.grains }) refl

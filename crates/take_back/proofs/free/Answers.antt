@@ -9,32 +9,30 @@ use Rattle.deeds.specs.Runs.{Runs, CanRun, can_enter, run_left, run_right, runs_
 use Rattle.take_back.specs.Returned.{Freed}
 use Rattle.take_back.specs.Free.{free_done}
 use Rattle.take_back.proofs.free.Goals as goal
-use Rattle.take_back.proofs.free.Goals.{After-list_of}
+use Rattle.take_back.proofs.free.Goals.{After-list_of, Start}
 
 -- what is freed, and its steps
-abbrev freed : tie.Start → Freed
-freed s = record { at = s.args.x; grains = s.args.s; before = s.args.before; after = s.args.after }
+abbrev freed : (c : Start) → Freed
+freed c = record { at = c.args.x; grains = c.args.s; before = c.args.before; after = c.args.after }
 
-abbrev early : tie.Start → List Step
-early s = beside_steps s.args.x s.args.s s.args.before s.args.after
+abbrev early : (c : Start) → List Step
+early c = beside_steps c.args.x c.args.s c.args.before c.args.after
 
-abbrev late : tie.Start → List Step
-late s = join_steps s.args.x s.args.s s.args.before s.args.after
-
-abbrev start : tie.After-leave-both → tie.Start
-start b = b.before.before.before.before.before.before
+abbrev late : (c : Start) → List Step
+late c = join_steps c.args.x c.args.s c.args.before c.args.after
 
 -- the neighbours have left their lists
-entering : (c : After-list_of) → CanRun (enter c.list_of.result ((start c).args.x - (start c).args.before) ∷ []) c.leave_both.new.a c.leave_both.new.lists
+entering : (c : After-list_of) → CanRun (enter c.list_of.result ((c).args.x - (c).args.before) ∷ []) c.leave_both.new.a c.leave_both.new.lists
 entering c =
-    let s = start c in
-    subst (λ (k : ℕ). CanRun (enter k (s.args.x - s.args.before) ∷ []) c.leave_both.new.a c.leave_both.new.lists) (sym c.list_of.ensures.0)
-    (run_right (early s) (late s) s.args.a.now s.args.lists.now c.leave_both.new.a c.leave_both.new.lists s.pre.steps c.leave_both.ensures)
+    let early : List Step = beside_steps c.args.x c.args.s c.args.before c.args.after in
+    let late : List Step = join_steps c.args.x c.args.s c.args.before c.args.after in
+    subst (λ (k : ℕ). CanRun (enter k (c.args.x - c.args.before) ∷ []) c.leave_both.new.a c.leave_both.new.lists) (sym c.list_of.ensures.0)
+    (run_right (early) (late) c.args.a.now c.args.lists.now c.leave_both.new.a c.leave_both.new.lists c.requires.steps c.leave_both.ensures)
 
 pub leave_both-requires : goal.leave_both-requires
 leave_both-requires c =
     (
-      run_left (early c) (late c) c.args.a.now c.args.lists.now [] [] c.requires.steps,
+      run_left (early (goal.at.leave_both-requires c).Start) (late (goal.at.leave_both-requires c).Start) c.args.a.now c.args.lists.now [] [] c.requires.steps,
       omega (arith, c.requires.tags.counted),
       omega (arith, c.requires.tags.counted),
       c.requires.tags.before,
@@ -43,15 +41,13 @@ leave_both-requires c =
 
 pub enter-requires : goal.enter-requires
 enter-requires c =
-    let s = start c in
-    can_enter c.list_of.result (s.args.x - s.args.before) [] c.leave_both.new.a c.leave_both.new.lists (entering (goal.at.enter-requires c).After-list_of)
+    can_enter c.list_of.result (c.args.x - c.args.before) [] c.leave_both.new.a c.leave_both.new.lists (entering (goal.at.enter-requires c).After-list_of)
 
 pub returns : goal.returns
 returns c =
-    let s = start c in
-    free_done s.args.a.now s.args.lists.now s.args.tags.now s.args.q (freed s) c.leave_both.new.a c.leave_both.new.lists c.enter.new.a c.enter.new.lists c.deallocate_tags.new.tags
-    s.pre.steps c.leave_both.ensures
-    (subst (λ (k : ℕ). Runs (enter k (s.args.x - s.args.before) ∷ []) c.leave_both.new.a c.leave_both.new.lists c.enter.new.a c.enter.new.lists) c.list_of.ensures.0
-    (runs_then (enter c.list_of.result (s.args.x - s.args.before)) [] c.leave_both.new.a c.leave_both.new.lists c.enter.new.a c.enter.new.lists c.enter.new.a c.enter.new.lists (entering (goal.at.returns c).After-list_of) c.enter.ensures
+    free_done c.args.a.now c.args.lists.now c.args.tags.now c.args.q (freed (goal.at.returns c).Start) c.leave_both.new.a c.leave_both.new.lists c.enter.new.a c.enter.new.lists c.deallocate_tags.new.tags
+    c.requires.steps c.leave_both.ensures
+    (subst (λ (k : ℕ). Runs (enter k (c.args.x - c.args.before) ∷ []) c.leave_both.new.a c.leave_both.new.lists c.enter.new.a c.enter.new.lists) c.list_of.ensures.0
+    (runs_then (enter c.list_of.result (c.args.x - c.args.before)) [] c.leave_both.new.a c.leave_both.new.lists c.enter.new.a c.enter.new.lists c.enter.new.a c.enter.new.lists (entering (goal.at.returns c).After-list_of) c.enter.ensures
     (runs_none c.enter.new.a c.enter.new.lists)))
     c.deallocate_tags.ensures

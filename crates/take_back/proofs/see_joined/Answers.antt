@@ -2,7 +2,6 @@
 use native.Mathlib.Omega.{arith}
 use mathlib.Core.List.{[]}
 use mathlib.Core.Path.{refl, ap, ◌∙◌}
-use borrow.Author.Tests.{not-true, not-false}
 use Rattle.lent.specs.Slices.{grains}
 use Rattle.lent.specs.Shown.{grains_below}
 use Rattle.entries.specs.Answers.{held, verdict, told, refused_is, granted_is}
@@ -23,7 +22,7 @@ overflow_add-before c =
 pub returns-then-not-see_join : goal.returns-then-not-see_join
 returns-then-not-see_join c = λ g.
     join_bad (held c.args.a.now c.args.lists.now c.args.tags.now g) (grains c.args.a.now) c.args.x c.args.s c.args.after c.in-Grains.before (c.see_before.ensures g ∙ ap told c.in-Grains.is)
-    (c.see_join.ensures g ∙ ap verdict (not-true c.see_join.result c.if-not-see_join.true))
+    (c.see_join.ensures g ∙ ap verdict c.if-not-see_join.true)
     ∙ refused_is 5 c.refuse-then-not-see_join.result.refusal (freed_of c.refuse-then-not-see_join.result) (omega arith) c.refuse-then-not-see_join.ensures
 
 pub returns-in-Bad : goal.returns-in-Bad
@@ -33,5 +32,5 @@ returns-in-Bad c = λ g.
 pub returns-else-not-see_join : goal.returns-else-not-see_join
 returns-else-not-see_join c = λ g.
     join_found (held c.args.a.now c.args.lists.now c.args.tags.now g) (grains c.args.a.now) c.args.x c.args.s c.args.after c.in-Grains.before (c.see_before.ensures g ∙ ap told c.in-Grains.is)
-    (c.see_join.ensures g ∙ ap verdict (not-false c.see_join.result c.if-not-see_join.false))
+    (c.see_join.ensures g ∙ ap verdict c.if-not-see_join.false)
     ∙ granted_is 0 (record { at = c.args.x; grains = c.args.s; before = c.in-Grains.before; after = c.args.after }) refl
