@@ -16,8 +16,8 @@ use Rattle.resize.proofs.see_down.Goals as goal
 use Rattle.resize.proofs.see_down.Goals.{After-keeps_of-keep}
 
 -- what is kept is as the definition has it
-kept : (c : After-keeps_of-keep) → c.keeps_of-keep.result ≡ keeps (place (c).args.multiple ((c).args.x - (c).args.before)) (c).args.length
-kept c = c.keeps_of-keep.ensures ∙ ap (λ (d : ℕ). keeps d (c).args.length) c.place_of.ensures
+kept : (c : After-keeps_of-keep) → c.keeps_of-keep.result ≡ keeps (place c.args.multiple (c.args.x - c.args.before)) c.args.length
+kept c = c.keeps_of-keep.ensures ∙ ap (λ (d : ℕ). keeps d c.args.length) c.place_of.ensures
 
 pub keeps_of-keep-requires : goal.keeps_of-keep-requires
 keeps_of-keep-requires c =

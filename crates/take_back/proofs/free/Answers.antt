@@ -22,7 +22,7 @@ abbrev late : (c : Start) → List Step
 late c = join_steps c.args.x c.args.s c.args.before c.args.after
 
 -- the neighbours have left their lists
-entering : (c : After-list_of) → CanRun (enter c.list_of.result ((c).args.x - (c).args.before) ∷ []) c.leave_both.new.a c.leave_both.new.lists
+entering : (c : After-list_of) → CanRun (enter c.list_of.result (c.args.x - c.args.before) ∷ []) c.leave_both.new.a c.leave_both.new.lists
 entering c =
     let early : List Step = beside_steps c.args.x c.args.s c.args.before c.args.after in
     let late : List Step = join_steps c.args.x c.args.s c.args.before c.args.after in
