@@ -1,0 +1,27 @@
+-- `firmheap::insert_free_block`: the whole grains among the bytes are laid out, and the answer is counted from the given start.
+use native.Mathlib.Omega.{arith}
+use mathlib.Core.Path.{ap}
+use Rattle.firmheap.specs.Replies.{laid}
+use Rattle.firmheap.specs.Give.{insert_done, insert_fits, insert_refused}
+use Rattle.firmheap.proofs.insert_free_block.Goals as goal
+
+pub overflow_add-result : goal.overflow_add-result
+overflow_add-result c =
+    omega (
+      arith,
+      insert_fits c.args.arena.now c.args.lists.now c.args.regions.now c.args.start c.args.len c.well_formed.0.0 c.first_grain-g.result c.whole_grains-n.result (laid c.lay.result) _ _ _
+          c.first_grain-g.ensures c.whole_grains-n.ensures c.lay.ensures c.bytes_before.result c.in-Grains.s c.bytes_before.ensures (ap laid c.in-Grains.is),
+    )
+
+pub overflow_mul-result : goal.overflow_mul-result
+overflow_mul-result c = omega (arith, add-t20 c)
+
+pub returns-in-Grains : goal.returns-in-Grains
+returns-in-Grains c =
+    insert_done _ _ _ c.args.start c.args.len c.well_formed.0.0 _ _ (laid c.lay.result) _ _ _
+    c.first_grain-g.ensures c.whole_grains-n.ensures c.lay.ensures _ _ c.bytes_before.ensures (ap laid c.in-Grains.is)
+
+pub returns-in-Refused : goal.returns-in-Refused
+returns-in-Refused c =
+    insert_refused _ _ _ c.args.start c.args.len c.well_formed.0.0 _ _ (laid c.lay.result) _ _ _
+    c.first_grain-g.ensures c.whole_grains-n.ensures c.lay.ensures _ (ap laid c.in-Refused.is)
