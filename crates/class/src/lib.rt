@@ -1,6 +1,8 @@
 // The list of a block, and where a search starts, for sizes counted in grains. A list has one number, 16 * fl + sl.
 // Both functions shift 16 * s, which holds the four bits below the highest one whatever s is, so there is one shift,
 // to the right, and no case. Neither knows how many lists there are: a caller compares the answer with its own number.
+#![tactic(auto)]
+
 ghost use Rattle.std.specs.Prelude.{◌≡◌, ◌<◌, ◌^◌};
 ghost use Rattle.class.specs.Class.{log, list_of, start_of};
 

@@ -1,0 +1,34 @@
+-- The quotient is from 16 to 32 (`fits`), so sums and shifts lose nothing.
+use Rattle.std.proofs.Common.{arith}
+use Rattle.class.specs.Class.{start_of}
+use Rattle.class.specs.Fit.{FitsUp, fits_up}
+use Rattle.class.proofs.map_ceil.Goals as goal
+use Rattle.class.proofs.map_ceil.Goals.{After-top_bit-f}
+
+fits : (c : After-top_bit-f) → FitsUp c.args.s c.top_bit-f.result
+fits c = rw c.top_bit-f.ensures (fits_up c.args.s c.requires.0 c.requires.1)
+
+pub overflow_mul-result : goal.overflow_mul-result
+overflow_mul-result c = omega (arith, fits c)
+
+pub overflow_shl-result : goal.overflow_shl-result
+overflow_shl-result c = omega (arith, fits c)
+
+pub overflow_sub-result : goal.overflow_sub-result
+overflow_sub-result c = rw (fits c).one (fits c).some
+
+pub overflow_add-result : goal.overflow_add-result
+overflow_add-result c = rw (fits c).one (omega (arith, fits c))
+
+pub overflow_shr-result : goal.overflow_shr-result
+overflow_shr-result c = omega (arith, fits c)
+
+pub overflow_add-result-2 : goal.overflow_add-result-2
+overflow_add-result-2 c = rw (fits c).one (omega (arith, fits c))
+
+pub overflow_sub-result-2 : goal.overflow_sub-result-2
+overflow_sub-result-2 c = rw (fits c).one (omega (arith, fits c))
+
+pub returns : goal.returns
+unfolding start_of
+returns c = rw ((fits c).one, c.top_bit-f.ensures)
