@@ -25,7 +25,7 @@ const DAMAGED: u64 = 5;
 
 // What a take found, where the refusal is 0: the first block of a list, what is next in the list, the payload's place in
 // the block and what the block keeps. Where it keeps less than it has, the rest goes to the head of its own list.
-#[derive(Drop)]
+#[derive(Clone, Copy)]
 pub struct Plan {
     pub refusal: u64,
     pub list: usize,
@@ -39,7 +39,7 @@ pub struct Plan {
 }
 
 // The first block of a list, where all that is beside it agrees, but for what is next, which is still to be asked.
-#[derive(Drop)]
+#[derive(Clone, Copy)]
 struct First {
     pub ok: bool,
     pub at: usize,
@@ -48,7 +48,7 @@ struct First {
 }
 
 // The list of what is left of a block, and its head, where all that is beside it agrees.
-#[derive(Drop)]
+#[derive(Clone, Copy)]
 struct Rest {
     pub ok: bool,
     pub list: usize,

@@ -14,7 +14,7 @@ use machine::PIECE;
 // ---- the block of a live payload
 
 // The block of a payload and how many grains it has; no such payload is live; or the tags contradict each other.
-#[derive(Drop)]
+#[derive(Clone, Copy)]
 pub enum Owner {
     Of(usize, usize),
     NotLive,

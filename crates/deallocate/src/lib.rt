@@ -20,7 +20,7 @@ const DAMAGED: u64 = 5;
 
 // Why the call is refused, unless with 0; the joined block, the neighbours that leave, in this order, and the list to which
 // it goes, with the head that it is put before.
-#[derive(Drop)]
+#[derive(Clone, Copy)]
 pub struct Plan {
     pub refusal: u64,
     pub at: usize,

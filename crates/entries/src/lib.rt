@@ -22,7 +22,7 @@ ghost use Rattle.entries.specs.Stepped.{Stepped, Leaves, Enters};
 use machine::PIECE;
 
 // A free block's grains, or the tags contradict each other.
-#[derive(Drop)]
+#[derive(Clone, Copy)]
 pub enum Found {
     Grains(usize),
     Bad,

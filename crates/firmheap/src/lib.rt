@@ -27,28 +27,28 @@ const NOT_LIVE: u64 = 3;
 const TOO_SHORT: u64 = 6;
 
 // A payload's offset, or why there is none.
-#[derive(Drop)]
+#[derive(Clone, Copy)]
 pub enum Taken {
     At(usize),
     Refused(u64),
 }
 
 // Done, or why not.
-#[derive(Drop)]
+#[derive(Clone, Copy)]
 pub enum Done {
     Yes,
     Refused(u64),
 }
 
 // The bytes used of a region, counted from its given start, or why there are none.
-#[derive(Drop)]
+#[derive(Clone, Copy)]
 pub enum Given {
     Bytes(usize),
     Refused(u64),
 }
 
 // The same in grains, from its first grain on.
-#[derive(Drop)]
+#[derive(Clone, Copy)]
 enum Laid {
     Grains(usize),
     Refused(u64),

@@ -20,7 +20,7 @@ use bits::MAP_WORDS;
 use header::{NEXT, NONE, PREV};
 
 // The links of a block in its list, where all that is beside it agrees.
-#[derive(Drop)]
+#[derive(Clone, Copy)]
 pub struct Entry {
     pub ok: bool,
     pub next: u64,
@@ -28,7 +28,7 @@ pub struct Entry {
 }
 
 // The head of a list, where all that is beside it agrees.
-#[derive(Drop)]
+#[derive(Clone, Copy)]
 pub struct Head {
     pub ok: bool,
     pub word: u64,

@@ -22,7 +22,7 @@ const DAMAGED: usize = 5;
 // Why the call is refused, unless with 0; the first grain, the pieces of full length with the head that the first of them is
 // put before, the grains of the last piece with the head that it is put before, and how many grains all of them have. There
 // may be no piece of full length, and no last piece, which then has no grains.
-#[derive(Drop)]
+#[derive(Clone, Copy)]
 pub struct Plan {
     pub refusal: usize,
     pub at: usize,

@@ -23,7 +23,7 @@ const NO_LIST: u64 = 1;
 const DAMAGED: u64 = 5;
 
 // What a search found, where the refusal is 0: a list, its first block, and how many grains that has.
-#[derive(Drop)]
+#[derive(Clone, Copy)]
 pub struct Taking {
     pub refusal: u64,
     pub list: usize,

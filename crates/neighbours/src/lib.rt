@@ -22,7 +22,7 @@ const DAMAGED: u64 = 5;
 // ---- the block of a live payload
 
 // A used block, or why the call is refused.
-#[derive(Drop)]
+#[derive(Clone, Copy)]
 pub struct Owner {
     pub refusal: u64,
     pub at: usize,
@@ -105,7 +105,7 @@ fn refused(why: u64) -> Owner
 // ---- the blocks beside a used one
 
 // A free block with its list and its links, or nobody, which has no grains; and whether all that is there agrees.
-#[derive(Drop)]
+#[derive(Clone, Copy)]
 pub struct Beside {
     pub ok: bool,
     pub grains: usize,
@@ -192,7 +192,7 @@ pub fn nobody(ok: bool) -> Beside
 // ---- a free neighbour leaves its list
 
 // A free neighbour that leaves its list, where it is before one block and behind another; nobody has no grains.
-#[derive(Drop)]
+#[derive(Clone, Copy)]
 pub struct Neighbour {
     pub grains: usize,
     pub list: usize,

@@ -18,7 +18,7 @@ use stretch::{FITTED, SAME};
 use undo::Saved;
 
 // Where the payload is afterwards, or why the call is refused, unless with 0.
-#[derive(Drop)]
+#[derive(Clone, Copy)]
 pub struct Resized {
     pub refusal: u64,
     pub at: usize,

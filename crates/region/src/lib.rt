@@ -33,7 +33,7 @@ const DAMAGED: usize = 5;
 const ADMITTED: usize = 0;
 
 // What the table says of a new region.
-#[derive(Drop)]
+#[derive(Clone, Copy)]
 pub struct Findings {
     // no entry overlaps it
     pub clear: bool,

@@ -22,7 +22,7 @@ const END: usize = 18446744073709551584;
 
 // A request in the heap's units: the payload's length and the multiple at which it stands in half grains, and what is
 // looked for in grains. Not ok: out of range, and the numbers say nothing.
-#[derive(Drop)]
+#[derive(Clone, Copy)]
 pub struct Request {
     pub ok: bool,
     pub length: usize,
@@ -32,7 +32,7 @@ pub struct Request {
 
 // A payload given back: its number in half grains; or an alignment that doesn't suit its offset; or an offset at which
 // no payload can be.
-#[derive(Drop)]
+#[derive(Clone, Copy)]
 pub enum Payload {
     At(usize),
     Unsuited,

@@ -21,7 +21,7 @@ const DAMAGED: u64 = 5;
 // What is to be done, for a block of some grains at a grain, with so many free grains before it and after it: nothing is done,
 // and why; nothing changes; the block stretches or shrinks; it moves down; it moves into the first block of a list, of so many
 // grains.
-#[derive(Drop)]
+#[derive(Clone, Copy)]
 pub enum Resizing {
     Refused(u64),
     Stay,

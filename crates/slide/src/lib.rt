@@ -26,7 +26,7 @@ pub const ELSEWHERE: usize = 1;
 // Why the call is refused, unless with 0, and else the kind. The neighbours leave, the one behind first; of the grains at
 // the start of the one before some are kept for the payload at its place, and the rest, if any, goes to a list, before its
 // head.
-#[derive(Drop)]
+#[derive(Clone, Copy)]
 pub struct Plan {
     pub refusal: u64,
     pub kind: usize,
@@ -41,7 +41,7 @@ pub struct Plan {
 }
 
 // The list of what is left of a block, and its head, where all that is beside it agrees.
-#[derive(Drop)]
+#[derive(Clone, Copy)]
 struct Rest {
     pub ok: bool,
     pub list: usize,

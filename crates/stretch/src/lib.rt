@@ -27,7 +27,7 @@ pub const SHORT: usize = 2;
 
 // Why the call is refused, unless with 0, and else the kind. The neighbour behind leaves its list; what is left of both, if
 // any, goes to a list, before its head.
-#[derive(Drop)]
+#[derive(Clone, Copy)]
 pub struct Plan {
     pub refusal: u64,
     pub kind: usize,

@@ -20,7 +20,7 @@ const DAMAGED: u64 = 5;
 
 // What the checks found, where the refusal is 0: the payload's block, how many grains it has, and how many are free before it
 // and after it.
-#[derive(Drop)]
+#[derive(Clone, Copy)]
 pub struct Returned {
     pub refusal: u64,
     pub at: usize,

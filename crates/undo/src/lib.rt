@@ -11,21 +11,21 @@ use bits::MAP_WORDS;
 use header::{BEFORE, NEXT, NONE, PREV, SIZE};
 
 // A word that stood at a grain, or as an entry of a table.
-#[derive(Drop)]
+#[derive(Clone, Copy)]
 pub struct Was {
     pub at: usize,
     pub word: u64,
 }
 
 // The previous of the block behind in the list, and of the block that the rest is put before.
-#[derive(Drop)]
+#[derive(Clone, Copy)]
 pub struct Links {
     pub next: Was,
     pub head: Was,
 }
 
 // The block's size, the link to the block before in the block behind it, and the pad.
-#[derive(Drop)]
+#[derive(Clone, Copy)]
 pub struct Block {
     pub size: Was,
     pub before: Was,
@@ -33,7 +33,7 @@ pub struct Block {
 }
 
 // The header of the rest.
-#[derive(Drop)]
+#[derive(Clone, Copy)]
 pub struct Header {
     pub at: usize,
     pub size: u64,
@@ -43,7 +43,7 @@ pub struct Header {
 }
 
 // The map, and the heads of the block's list and of the rest's.
-#[derive(Drop)]
+#[derive(Clone, Copy)]
 pub struct Heads {
     pub first: u64,
     pub second: u64,
@@ -53,7 +53,7 @@ pub struct Heads {
 }
 
 // All that a take writes to.
-#[derive(Drop)]
+#[derive(Clone, Copy)]
 pub struct Saved {
     pub links: Links,
     pub block: Block,
