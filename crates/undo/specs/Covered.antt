@@ -23,10 +23,12 @@ In i [] = ⊥
 In i (k ∷ p) = (k ≡ i) ⊎ In i p
 
 clear_in : (i j : ℕ) (p : List ℕ) → In i p → Clear j p → Apart (8 * i) 8 j 1
+clear_in i j [] x c = absurd x
 clear_in i j (k ∷ p) (inl e) c = subst (λ (z : ℕ). Apart (8 * z) 8 j 1) e c.0
 clear_in i j (k ∷ p) (inr h) c = clear_in i j p h c.1
 
 else_in : (i j : ℕ) (p : List ℕ) → In i p → Else j p → i ≡ j → ⊥
+else_in i j [] x c q = absurd x
 else_in i j (k ∷ p) (inl e) c q = c.0 (e ∙ q)
 else_in i j (k ∷ p) (inr h) c q = else_in i j p h c.1 q
 
