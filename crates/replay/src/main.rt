@@ -1,6 +1,7 @@
 // Reads recorded calls from standard input, makes each on the heap, and compares the answer and the usable size with the
-// recorded ones. data/answers/README.md says what a line is. The last line says whether all agreed: a program has no exit
-// status of its own. Nothing but safety is proved of this program; it is there to hold the heap to the record.
+// recorded ones. data/answers/README.md says what a line is. The last line says whether all agreed; the exit status is
+// 0 also where not, unless a write failed. Nothing but safety is proved of this program; it is there to hold the heap to the
+// record.
 #![tactic(auto)]
 
 mod heap;
