@@ -5,7 +5,7 @@
 -- the greatest floor that isn't above it; a search starts at the list with the least floor that isn't below it. Both are
 -- one expression, rounded down or up, with no case and no carry. Neither the size of a grain nor the number of lists
 -- occurs: with n first-level classes the lists are those below 16 * n, and 16 * n stands for none.
-use Rattle.std.specs.Prelude.{ℕ, suc, ◌+◌, ◌-◌, ◌*◌, ◌/◌, ◌%◌, ◌^◌, ◌≤◌, ◌<◌, ◌≡◌}
+use Rattle.std.specs.Prelude.{ℕ, ◌+◌, ◌-◌, ◌*◌, ◌/◌, ◌%◌, ◌^◌, ◌≤◌, ◌<◌, ◌≡◌}
 use Rattle.std.proofs.Math.Nat.{add-mul, lt-div-mul-add}
 use Rattle.std.proofs.Common.{le_refl, div-mul-le_self, le-div_iff_mul-le, div-lt_iff_lt-mul, add-one, ◌∙◌, ⊎_elim, pow_pos, pow-add}
 use Rattle.std.proofs.Math.Decide.{le_ind}

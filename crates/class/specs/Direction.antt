@@ -7,7 +7,7 @@
 --
 -- In grains the same list comes out: `in_bytes` says it for every grain of 2 ^ e bytes, e at least 4.
 use Rattle.std.specs.Prelude.{ℕ, ◌+◌, ◌-◌, ◌*◌, ◌/◌, ◌^◌, ◌≤◌, ◌<◌, ◌≡◌}
-use Rattle.std.proofs.Common.{mul_assoc, mul-le-mul_left, arith, ap, sym, ◌∙◌, pow_pos, pow-add}
+use Rattle.std.proofs.Common.{mul_assoc, mul-le-mul_left, arith, ap, ◌∙◌, pow_pos, pow-add}
 use Rattle.std.proofs.Math.Nat.{mul-lt-mul_of_pos_left, mul-div-mul_left}
 use Rattle.class.specs.Log.{log, log_top, log_is, log_ge}
 use Rattle.class.specs.Class.{list_of}

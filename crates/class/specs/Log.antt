@@ -1,6 +1,6 @@
 -- The logarithm of two, rounded down: the place of a number's highest set bit. Computed by halving, so that it is fast
 -- on closed numbers; known by its two bounds, which no other number meets.
-use Rattle.std.specs.Prelude.{ℕ, zero, suc, ◌+◌, ◌-◌, ◌*◌, ◌/◌, ◌^◌, ◌≤◌, ◌<◌, ◌≡◌, Bool, true, false, leb}
+use Rattle.std.specs.Prelude.{ℕ, zero, suc, ◌+◌, ◌-◌, ◌/◌, ◌^◌, ◌≤◌, ◌<◌, ◌≡◌, Bool, true, false, leb}
 use Rattle.std.proofs.Common.{le_refl, add-one, arith, ap, sym, ◌∙◌, ⊎_elim, pow_pos, pow_mono, le-leb}
 use Rattle.std.specs.Int.Count.{count_leading_zeros}
 use Rattle.std.proofs.lemmas.Nat.{leading_top}
