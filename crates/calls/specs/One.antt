@@ -31,8 +31,6 @@ asks_right k K i (back s) (unkind u n) = n s.kind
 asks_right k K i (resize r s) (resize_range n) = n r
 asks_right k K i (resize r s) (resize_unsuited u n) = n s.suits
 asks_right k K i (resize r s) (resize_unkind u v n) = n s.kind
-asks_right _ _ i (give {n = n}) w = elim w [ ]
-asks_right _ _ i (follow {n = n}) w = elim w [ ]
 
 -- in one way
 wrong_one : (k : ByteCall) (i j : ℕ) → Wrong k i → Wrong k j → i ≡ j

@@ -14,7 +14,12 @@ overflow_add-result c =
     )
 
 pub overflow_mul-result : goal.overflow_mul-result
-overflow_mul-result c = omega (arith, add-t20 c)
+overflow_mul-result c =
+    omega (
+      arith,
+      insert_fits c.args.arena.now c.args.lists.now c.args.regions.now c.args.start c.args.len c.well_formed.0.0 c.first_grain-g.result c.whole_grains-n.result (laid c.lay.result) _ _ _
+          c.first_grain-g.ensures c.whole_grains-n.ensures c.lay.ensures c.bytes_before.result c.in-Grains.s c.bytes_before.ensures (ap laid c.in-Grains.is),
+    )
 
 pub returns-in-Grains : goal.returns-in-Grains
 returns-in-Grains c =
