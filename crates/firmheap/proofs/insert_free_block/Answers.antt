@@ -11,7 +11,7 @@ use Rattle.firmheap.proofs.insert_free_block.Goals.{After-bytes_before}
 fits : (c : After-bytes_before) → c.bytes_before.result + 32 * c.in-Grains.s < 2 ^ 64
 fits c =
     insert_fits c.args.arena.now c.args.lists.now c.args.regions.now c.args.start c.args.len c.well_formed.0.0 c.first_grain-g.result c.whole_grains-n.result (laid c.lay.result) _ _ _
-        c.first_grain-g.ensures c.whole_grains-n.ensures c.lay.ensures c.bytes_before.result c.in-Grains.s c.bytes_before.ensures (ap laid c.in-Grains.is)
+    c.first_grain-g.ensures c.whole_grains-n.ensures c.lay.ensures c.bytes_before.result c.in-Grains.s c.bytes_before.ensures (ap laid c.in-Grains.is)
 
 pub overflow_add-result : goal.overflow_add-result
 overflow_add-result c = omega (arith, fits (goal.at.overflow_add-result c).After-bytes_before)
