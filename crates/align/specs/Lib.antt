@@ -1,3 +1,2 @@
 -- Alignments.
 pub mod Align
-pub mod Code

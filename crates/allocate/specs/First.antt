@@ -10,13 +10,15 @@ use Rattle.table.specs.Table.{entry}
 use Rattle.bits.specs.Map.{map_words, lists}
 use Rattle.class.specs.Class.{list_of}
 use Rattle.script.specs.Memory.{Memory, Size, Before, Next, Prev, none, root}
-use Rattle.script.specs.Script.{Script, Result, no, run, ◌>>=◌, ◌>>◌, get, must_eq, goes, halts, alike, reads, runs_stop, gives_eq, gives_le, halts_eq, halts_le}
+use Rattle.script.specs.Script.{Script, Result, no, run, ◌>>=◌, ◌>>◌, get, must_eq}
+use Rattle.script.proofs.Script.{goes, halts, alike, reads, runs_stop, gives_eq, gives_le, halts_eq, halts_le}
 use Rattle.sound.specs.Checks.{Word, is_free, is_used, is_last, is_bad, word_of, as_free, as_busy, must_grain, must_lead, must_back, must_busy, must_free}
 use Rattle.sound.specs.Plans.{Plan}
-use Rattle.sound.specs.Refused.{stops_then, stops_back}
+use Rattle.sound.proofs.Refused.{stops_then, stops_back}
 use Rattle.slices.specs.Decode.{grains, wrong_link, Inside}
-use Rattle.slices.specs.Arena.{size_at, link_at, link_in, size_inside}
-use Rattle.slices.specs.Slices.{memory_size, memory_before}
+use Rattle.slices.specs.Arena.{size_at, link_at}
+use Rattle.slices.proofs.Arena.{link_in, size_inside}
+use Rattle.slices.proofs.Slices.{memory_size, memory_before}
 use Rattle.header.specs.Turned.{turned}
 use Rattle.header.specs.Told.{free_of, busy_of}
 use Rattle.free_list.specs.Lent.{lent, held, no_link, link, Holds, link_none, link_some, link_grain, link_past}

@@ -3,19 +3,22 @@
 use Rattle.std.specs.Prelude.{ℕ, suc, ◌+◌, ◌-◌, ◌*◌, ◌/◌, ◌≤◌, ◌<◌, ◌≡◌, refl, Bool, true, false, List, [], ◌∷◌, ◌++◌, length}
 use Rattle.std.proofs.Common.{arith, ◌∙◌, subst, inl, inr}
 use Rattle.std.proofs.Math.Path.{ap, sym}
-use Rattle.bits.specs.First.{first_set, first_from, first_agree}
+use Rattle.bits.specs.First.{first_set}
+use Rattle.bits.proofs.First.{first_from, first_agree}
 use Rattle.bits.specs.Map.{lists, map_bit}
-use Rattle.class.specs.Class.{start_of, start_fits, start_large}
+use Rattle.class.specs.Class.{start_of}
+use Rattle.class.proofs.Class.{start_fits, start_large}
 use Rattle.definition.specs.Calls.{wanted, place, keeps}
-use Rattle.invariants.specs.Placing.{place_some, keeps_wanted}
+use Rattle.invariants.proofs.Placing.{place_some, keeps_wanted}
 use Rattle.script.specs.Memory.{Live, Mark, Prev, none, Write, ◌at◌≔◌}
-use Rattle.script.specs.Script.{Script, Result, ok, no, run, done, unless_le, ◌>>=◌, ◌>>◌, goes, halts, searches, gives_done, gives_le, halts_le}
+use Rattle.script.specs.Script.{Script, Result, ok, no, run, done, unless_le, ◌>>=◌, ◌>>◌}
+use Rattle.script.proofs.Script.{goes, halts, searches, gives_done, gives_le, halts_le}
 use Rattle.sound.specs.Checks.{must_back}
 use Rattle.sound.specs.Links.{unlink_writes}
 use Rattle.sound.specs.Plans.{leave_script, pad_writes, take_script}
 use Rattle.sound.specs.Plans.{Plan as Answer}
 use Rattle.slices.specs.Decode.{grains}
-use Rattle.slices.specs.Slices.{memory_mark}
+use Rattle.slices.proofs.Slices.{memory_mark}
 use Rattle.free_list.specs.Lent.{lent, held, classes, Room, no_link, link, Leads, Holds}
 use Rattle.free_list.specs.Answers.{answer, unless}
 use Rattle.free_list.specs.Back.{Back, reading_prev, back_yes, back_no}

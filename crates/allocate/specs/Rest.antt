@@ -4,7 +4,8 @@ use Rattle.std.specs.Prelude.{ℕ, ◌+◌, ◌-◌, ◌≤◌, ◌<◌, ◌≡�
 use Rattle.std.proofs.Common.{arith, ap, sym, ◌∙◌, subst, ⊎_elim}
 use Rattle.choice.specs.Choice.{if_eq, eq_yes, eq_no, eq_case, same?}
 use Rattle.bits.specs.Map.{lists}
-use Rattle.class.specs.Class.{list_of, list_mono}
+use Rattle.class.specs.Class.{list_of}
+use Rattle.class.proofs.Class.{list_mono}
 use Rattle.script.specs.Memory.{Next, none, root, Write, latest}
 use Rattle.script.specs.Script.{run}
 use Rattle.sound.specs.Links.{node, unlink_writes}

@@ -6,16 +6,11 @@ use Rattle.definition.specs.Lists.{Lists, found}
 use Rattle.definition.specs.Calls.{Heap, granted, wanted, take_at, give_back, insert, append}
 use Rattle.invariants.specs.Order.{BlockAt}
 use Rattle.script.specs.Memory.{Memory}
-use Rattle.script.specs.Script.{Gives}
 use Rattle.plans.specs.Deeds.{Plan}
 use Rattle.plans.specs.Checked.{GuardStands}
-use Rattle.plans.specs.Calls.{Call, Allocate, Deallocate, Reallocate, Insert, Append, script_of, Fair}
-use Rattle.armour.specs.Row.{Row}
+use Rattle.plans.specs.Calls.{Call, Allocate, Deallocate, Reallocate, Insert, Append}
 use Rattle.armour.specs.Turns.{Armoured}
-use Rattle.armour.specs.Allocates.{allocate_armoured}
-use Rattle.armour.specs.Deallocates.{deallocate_armoured}
-use Rattle.armour.specs.Reallocates.{Answered, reallocate_armoured}
-use Rattle.armour.specs.Regions.{insert_armoured, append_armoured}
+use Rattle.armour.specs.Reallocates.{Answered}
 
 -- The answer v and the heap g are the definition's for this call. Where the definition takes the head of the first list that is
 -- not empty, any free block of a list that it searches will do.
@@ -55,16 +50,3 @@ pub record CallArmoured (n c : ℕ) (m : Memory) (xs : List Block) (f : Lists) (
   pub heap : Heap
   pub possible : Possible c (record { blocks = xs; lists = f }) k t.answer heap
   pub armoured : Armoured n c m xs t heap.blocks
-
-pub call_armoured : (n c most : ℕ) (m : Memory) (xs : List Block) (f : Lists) (k : Call) (t : Plan) → 1 ≤ c → Row n c m xs → Fair k → Gives m (script_of n c most k) t → CallArmoured n c m xs f k t
-call_armoured n c most m xs f (Allocate p a) t big o fair g =
-    let w = allocate_armoured n c p a m xs f t fair o g in
-    record { intact = tt; heap = w.heap; possible = record { block = w.block; grains = w.grains; was_free = w.was_free; searched = w.searched; defined = w.defined }; armoured = w.armoured }
-call_armoured n c most m xs f (Deallocate q) t big o fair g =
-    let w = deallocate_armoured n c q m xs f t o g in
-    record { intact = record { block = w.block; grains = w.grains; place = w.place; was_used = w.was_used; payload = w.payload; guarded = w.guarded }; heap = w.heap; possible = w.defined; armoured = w.armoured }
-call_armoured n c most m xs f (Reallocate q p a) t big o fair g =
-    let w = reallocate_armoured n c q p a m xs f t fair.0 o g in
-    record { intact = record { block = w.block; grains = w.grains; place = w.place; was_used = w.was_used; payload = w.owner; guarded = w.guarded }; heap = w.heap; possible = w.defined; armoured = w.armoured }
-call_armoured n c most m xs f (Insert x len) t big o fair g = let w = insert_armoured n c x len m xs f o big most t g in record { intact = tt; heap = w.heap; possible = w.defined; armoured = w.armoured }
-call_armoured n c most m xs f (Append x len) t big o fair g = let w = append_armoured n c x len m xs f o big most t g in record { intact = tt; heap = w.heap; possible = w.defined; armoured = w.armoured }

@@ -8,12 +8,10 @@ pub mod Changed
 pub mod Allocates
 pub mod Deallocates
 pub mod Dead
-pub mod InPlace
 pub mod Apart
 pub mod Elsewhere
 pub mod Resizes
 pub mod Carried
-pub mod Moved
 pub mod Reallocates
 pub mod Laid
 pub mod Inserts

@@ -5,7 +5,8 @@ use Rattle.std.proofs.Math.Path.{ap}
 use Rattle.choice.specs.Choice.{eq_yes, eq_no}
 use Rattle.table.specs.Table.{entry}
 use Rattle.script.specs.Memory.{Memory, Next, Prev}
-use Rattle.script.specs.Script.{no, run, unless_eq, unless_le, must_eq, must_le, goes, halts, reads, gives_eq, gives_le, halts_eq, halts_le}
+use Rattle.script.specs.Script.{no, run, unless_eq, unless_le, must_eq, must_le}
+use Rattle.script.proofs.Script.{goes, halts, reads, gives_eq, gives_le, halts_eq, halts_le}
 use Rattle.machine.specs.Machine.{guard_next, guard_prev}
 use Rattle.tags.specs.Tag.{Tag, flags, START, SMALL, LARGE}
 use Rattle.plans.specs.Checks.{must_grain, must_be, see_guard, owned, owner_small, owner_wide, owner_large, see_owner}

@@ -7,13 +7,14 @@ use Rattle.choice.specs.Says.{Says}
 use Rattle.table.specs.Table.{entry}
 use Rattle.class.specs.Class.{list_of}
 use Rattle.script.specs.Memory.{Memory}
-use Rattle.script.specs.Script.{ok, no, run, done, ◌>>=◌, must_le, goes, halts, reads, gives_done, gives_eq, gives_le, halts_eq, halts_le}
+use Rattle.script.specs.Script.{ok, no, run, done, ◌>>=◌, must_le}
+use Rattle.script.proofs.Script.{goes, halts, reads, gives_done, gives_eq, gives_le, halts_eq, halts_le}
 use Rattle.machine.specs.Machine.{classes, piece}
 use Rattle.tags.specs.Tag.{Tag, flags, START, FREE, free_tag}
 use Rattle.tags.specs.Decode.{Busy}
 use Rattle.plans.specs.Checks.{must_grain, must_list, must_be, must_busy, see_free, see_entry, listed, free_after, see_after, free_before, see_before}
 use Rattle.lent.specs.Slices.{grains, tag_words, tag_of, tag_word, memory_of}
-use Rattle.lent.specs.TagWords.{tag_is}
+use Rattle.lent.proofs.TagWords.{tag_is}
 use Rattle.entries.specs.Answers.{held, answer, verdict}
 use Rattle.entries.specs.Decides.{decided, decides_last}
 use Rattle.entries.specs.Seen.{decides_busy}

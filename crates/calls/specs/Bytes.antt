@@ -1,7 +1,6 @@
 -- The calls as a caller makes them, in bytes; and what each asks for in half grains and grains, or why its numbers are
 -- refused before the heap is looked at.
-use Rattle.std.specs.Prelude.{ℕ, ◌+◌, ◌-◌, ◌*◌, ◌/◌, ◌%◌, ◌≡◌}
-use Rattle.std.proofs.Common.{arith, ⊎_elim}
+use Rattle.std.specs.Prelude.{ℕ, ◌+◌, ◌-◌, ◌*◌, ◌/◌, ◌%◌}
 use Rattle.choice.specs.Choice.{if_eq}
 use Rattle.definition.specs.Units.{halves, multiple, first_grain, whole_grains}
 use Rattle.sound.specs.Calls.{Call, Take, Return, Resize, Give, Append}
@@ -26,10 +25,6 @@ pub data Wrong : ByteCall → ℕ → Type 0 where
   resize_range : {x n a : ℕ} → (InRange n a → ⊥) → Wrong (reallocate x n a) 2
   resize_unsuited : {x n a : ℕ} → InRange n a → (Suits x a → ⊥) → Wrong (reallocate x n a) 2
   resize_unkind : {x n a : ℕ} → InRange n a → Suits x a → (OfKind x → ⊥) → Wrong (reallocate x n a) 3
-
--- a payload's offset in bytes is its place in half grains
-pub stands_offset : {x a q : ℕ} → Stands x a q → 16 * q ≡ x
-stands_offset s = ⊎_elim (λ e. omega (arith, s.number)) (λ e. omega (arith, s.number)) s.kind
 
 -- the grains of n bytes that follow a region which ended at the offset x: inside a grain none ends, and none follows
 abbrev pub following : ℕ → ℕ → ℕ

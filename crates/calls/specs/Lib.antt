@@ -17,4 +17,3 @@ pub mod Handed
 pub mod Rehoused
 pub mod Damage
 pub mod Promises
-pub mod Promised

@@ -1,6 +1,6 @@
 -- What a call does to lent slices, whatever is in them (`Performs`), and what the definition says that it does to a heap
 -- (`Defines`). Both in the order in which refusals are tested: tables that are too short, numbers, offset, records.
-use Rattle.std.specs.Prelude.{ℕ, ◌+◌, ◌-◌, ◌*◌, ◌/◌, ◌≤◌, ◌<◌, ◌≡◌, refl, length}
+use Rattle.std.specs.Prelude.{ℕ, ◌+◌, ◌-◌, ◌*◌, ◌/◌, ◌≤◌, ◌<◌, ◌≡◌, length}
 use Rattle.bits.specs.Map.{map_words}
 use Rattle.bits.specs.Map.{lists as list_count}
 use Rattle.definition.specs.Calls.{Heap}
@@ -11,8 +11,7 @@ use Rattle.sound.specs.Calls.{Call, Take, Return, Resize, Give, Append, script_o
 use Rattle.sound.specs.Runs.{Reply, yes, not, said, left}
 use Rattle.slices.specs.Decode.{grains}
 use Rattle.slices.specs.Slices.{Slices, memory_of, stores}
-use Rattle.slices.specs.Kept.{Lengths, stores_lengths}
-use Rattle.carry.specs.Carry.{carried, carried_lengths, carried_tables}
+use Rattle.carry.specs.Carry.{carried}
 use Rattle.tables.specs.Length.{LongEnough}
 use Rattle.calls.specs.Bytes.{ByteCall, allocate, deallocate, reallocate, insert, append, Wrong, Asks, bytes, in_bytes}
 
@@ -61,22 +60,6 @@ stored S (Return q) p = stores 8 S p.writes
 stored S (Resize q h a) p = carried S q p
 stored S (Give g len) p = stores 8 S p.writes
 stored S (Append g len) p = stores 8 S p.writes
-
--- it keeps all lengths
-pub stored_lengths : (S : Slices) (K : Call) (p : Plan) → Lengths S (stored S K p)
-stored_lengths S (Take h a) p = stores_lengths 8 S p.writes
-stored_lengths S (Return q) p = stores_lengths 8 S p.writes
-stored_lengths S (Resize q h a) p = carried_lengths S q p
-stored_lengths S (Give g len) p = stores_lengths 8 S p.writes
-stored_lengths S (Append g len) p = stores_lengths 8 S p.writes
-
--- and the regions are those with all writes stored
-pub stored_regions : (S : Slices) (K : Call) (p : Plan) → (stored S K p).regions ≡ (stores 8 S p.writes).regions
-stored_regions S (Take h a) p = refl
-stored_regions S (Return q) p = refl
-stored_regions S (Resize q h a) p = (carried_tables S q p).regions
-stored_regions S (Give g len) p = refl
-stored_regions S (Append g len) p = refl
 
 -- the reply, and the slices afterwards: a refusal leaves them as they were, and else exactly the plan's writes are stored
 pub data Performs (S : Slices) (k : ByteCall) : Reply → Slices → Type 0 where

@@ -8,7 +8,8 @@ use Rattle.choice.specs.Choice.{eq_yes, eq_no}
 use Rattle.bits.specs.Map.{lists}
 use Rattle.class.specs.Class.{list_of}
 use Rattle.script.specs.Memory.{Next, root, Write, latest}
-use Rattle.script.specs.Script.{Script, ok, no, run, done, ◌>>=◌, ◌>>◌, goes, halts, gives_done, gives_le, halts_le}
+use Rattle.script.specs.Script.{Script, ok, no, run, done, ◌>>=◌, ◌>>◌}
+use Rattle.script.proofs.Script.{goes, halts, gives_done, gives_le, halts_le}
 use Rattle.sound.specs.Checks.{must_list, see_head}
 use Rattle.sound.specs.Links.{push_writes}
 use Rattle.sound.specs.Plans.{split_writes, leave_script}

@@ -10,7 +10,8 @@ use Rattle.word.specs.Word.{put_at, put_at_length}
 use Rattle.script.specs.Memory.{Size, Before, Prev, free_word, used_word, Write, ◌at◌≔◌}
 use Rattle.sound.specs.Links.{push_writes}
 use Rattle.sound.specs.Plans.{whole_writes, split_writes, pad_writes}
-use Rattle.slices.specs.Decode.{size_word, link_word, top_of, grains, grains_keep, free_stored, used_stored}
+use Rattle.slices.specs.Decode.{size_word, link_word, top_of, grains}
+use Rattle.slices.proofs.Decode.{grains_keep, free_stored, used_stored}
 use Rattle.slices.specs.Arena.{put_size, put_link}
 use Rattle.slices.specs.Slices.{Slices, stores}
 use Rattle.free_list.specs.Lent.{lent, grain_stored}

@@ -3,6 +3,5 @@ pub mod Links
 pub mod Steps
 pub mod Chain
 pub mod Strung
-pub mod Seen
 pub mod Legal
 pub mod Closed

@@ -6,11 +6,12 @@ use Rattle.std.proofs.Math.Path.{refl, ap, sym}
 use Rattle.bits.specs.Map.{lists}
 use Rattle.class.specs.Class.{list_of}
 use Rattle.script.specs.Memory.{Next, root, Write, latest}
-use Rattle.script.specs.Script.{done, ok, no, run, ◌>>=◌, goes, halts, gives_done, gives_le, halts_le}
+use Rattle.script.specs.Script.{done, ok, no, run, ◌>>=◌}
+use Rattle.script.proofs.Script.{goes, halts, gives_done, gives_le, halts_le}
 use Rattle.sound.specs.Checks.{Owner, Beside, must_list, see_head, see_behind, see_before, see_owner}
 use Rattle.sound.specs.Links.{push_writes}
 use Rattle.sound.specs.Plans.{room_of, both_leave, free_writes, join_script, give_back_script}
-use Rattle.sound.specs.Refused.{stops_then, stops_behind}
+use Rattle.sound.proofs.Refused.{stops_then, stops_behind}
 use Rattle.slices.specs.Decode.{grains}
 use Rattle.free_list.specs.Lent.{held, classes, link}
 use Rattle.free_list.specs.Answers.{answer, unless}

@@ -7,7 +7,8 @@ use Rattle.script.specs.Script.{Script, Result, no, run, ◌>>=◌}
 use Rattle.sound.specs.Checks.{Beside, see_behind, see_before}
 use Rattle.sound.specs.Links.{push_writes}
 use Rattle.sound.specs.Plans.{Plan, room_of, both_leave, free_writes, join_script, give_back_script}
-use Rattle.slices.specs.Decode.{grains, grains_keep}
+use Rattle.slices.specs.Decode.{grains}
+use Rattle.slices.proofs.Decode.{grains_keep}
 use Rattle.free_list.specs.Lent.{held, classes, link, Leads, link_keep, leads_keep}
 use Rattle.free_list.specs.Answers.{unless, unless_no}
 use Rattle.neighbours.specs.declared.Neighbour.{Neighbour}

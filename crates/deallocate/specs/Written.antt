@@ -8,7 +8,8 @@ use Rattle.bits.specs.TableBit.{clear_table_bit, set_table_bit}
 use Rattle.script.specs.Memory.{Before, free_word, Write}
 use Rattle.sound.specs.Links.{push_writes}
 use Rattle.sound.specs.Plans.{free_writes}
-use Rattle.slices.specs.Decode.{grains, size_word, free_stored}
+use Rattle.slices.specs.Decode.{grains, size_word}
+use Rattle.slices.proofs.Decode.{free_stored}
 use Rattle.slices.specs.Arena.{put_size, put_link}
 use Rattle.slices.specs.Slices.{stores}
 use Rattle.free_list.specs.Lent.{lent, link, Long, link_keep, grain_stored}

@@ -15,8 +15,8 @@ use Rattle.chains.specs.Steps.{Step, enter, steps_writes}
 use Rattle.plans.specs.Deeds.{Deed, guard_writes, early_writes, late_writes, plan_of}
 use Rattle.plans.specs.Allocate.{rest_steps}
 use Rattle.lent.specs.Slices.{Slices, memory_of, stores}
-use Rattle.lent.specs.Kept.{grains_keep, stores_append}
-use Rattle.lent.specs.Stored.{stores_memory}
+use Rattle.lent.proofs.Kept.{grains_keep, stores_append}
+use Rattle.lent.proofs.Stored.{stores_memory}
 use Rattle.lent.specs.Shifted.{shifted, carried_out}
 use Rattle.stamps.specs.Stores.{tag_stores, stores_tags}
 use Rattle.entries.specs.Answers.{slices}

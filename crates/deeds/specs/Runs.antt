@@ -4,17 +4,20 @@ use Rattle.std.specs.Prelude.{ℕ, ◌+◌, ◌<◌, ◌≡◌, refl, length}
 use Rattle.std.proofs.Common.{arith, ap, sym, ◌∙◌, subst, ⊎_elim}
 use mathlib.Core.List.{List, [], ◌∷◌, ◌++◌}
 use Rattle.table.specs.Table.{entry}
-use Rattle.bits.specs.Map.{map_bit, map_bit_lt}
+use Rattle.bits.specs.Map.{map_bit}
+use Rattle.bits.proofs.Map.{map_bit_lt}
 use Rattle.script.specs.Memory.{Memory, Write, apply}
 use Rattle.machine.specs.Machine.{words, classes, map_words}
 use Rattle.machine.specs.Machine.{lists as list_count}
 use Rattle.tags.specs.Each.{Each}
 use Rattle.chains.specs.Steps.{Step, leave, enter, step_writes, steps_writes}
-use Rattle.chains.specs.Closed.{LinkWrite, at_next, at_prev, at_head, at_mark, Ready, Shown, Fit, leave_ready, enter_ready, leave_shown, enter_shown, steps_done}
+use Rattle.chains.specs.Closed.{LinkWrite, at_next, at_prev, at_head, at_mark, Ready, Shown, Fit}
+use Rattle.chains.proofs.Closed.{leave_ready, enter_ready, leave_shown, enter_shown, steps_done}
 use Rattle.plans.specs.StorableParts.{bounds}
 use Rattle.lent.specs.Slices.{Slices, grains, memory_of, stores, AllValid, Valid}
-use Rattle.lent.specs.Kept.{Lengths, stores_lengths, grains_keep, all_valid_keep, all_valid_append}
-use Rattle.lent.specs.Stored.{stores_memory}
+use Rattle.lent.specs.Kept.{Lengths}
+use Rattle.lent.proofs.Kept.{stores_lengths, grains_keep, all_valid_keep, all_valid_append}
+use Rattle.lent.proofs.Stored.{stores_memory}
 use Rattle.entries.specs.Answers.{slices, Long}
 use Rattle.entries.specs.Stepped.{Stepped, stepped_stores, Leaves, Enters}
 use Rattle.deeds.specs.Stored.{stepped, steps_stored, more_stored}

@@ -3,10 +3,11 @@
 use Rattle.std.specs.Prelude.{◌≡◌, List, [], ◌∷◌, ◌++◌}
 use Rattle.std.proofs.Common.{ap, sym, ◌∙◌}
 use Rattle.script.specs.Memory.{Memory, Write, apply}
-use Rattle.chains.specs.Steps.{Step, step_writes, steps_writes, steps_append}
+use Rattle.chains.specs.Steps.{Step, step_writes, steps_writes}
+use Rattle.chains.proofs.Steps.{steps_append}
 use Rattle.lent.specs.Slices.{Slices, memory_of, stores, AllValid}
-use Rattle.lent.specs.Kept.{stores_append}
-use Rattle.lent.specs.Stored.{stores_memory}
+use Rattle.lent.proofs.Kept.{stores_append}
+use Rattle.lent.proofs.Stored.{stores_memory}
 use Rattle.plans.specs.Deeds.{Deed, guard_writes, early_writes, late_writes, plan_of, writes}
 
 -- the slices after some steps

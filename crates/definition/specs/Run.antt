@@ -1,7 +1,7 @@
 -- The worked run of docs/HEAP.md, by computation. Calls and answers are in bytes, with half grains of 16.
-use Rattle.std.specs.Prelude.{ℕ, ◌+◌, ◌-◌, ◌*◌, ◌/◌, ◌≡◌, refl, List, [], ◌∷◌}
+use Rattle.std.specs.Prelude.{ℕ, ◌+◌, ◌-◌, ◌*◌, ◌/◌, List, [], ◌∷◌}
 use Rattle.definition.specs.Blocks.{Block, free, used, last, gap}
-use Rattle.definition.specs.Calls.{Heap, Refusal, no_list, Answer, refused, granted, empty, take, give_back, resize, insert, append}
+use Rattle.definition.specs.Calls.{Heap, Refusal, Answer, refused, granted, take, give_back, resize, insert, append}
 use Rattle.definition.specs.Units.{halves, multiple, first_grain, whole_grains}
 
 pub data Call : Type 0 where
@@ -50,15 +50,3 @@ unfoldable pub after : Heap → List Call → Heap
 unfolding call heap_of
 after h [] = h
 after h (k ∷ l) = after (heap_of h (call h k).1) l
-
-worked : run (empty 2048)
-    (Give 0 65536 ∷ Take 100 8 ∷ Take 1000 8 ∷ Take 24 64 ∷ Take 0 1 ∷ Take 2000 16 ∷ Return 144 ∷ Take 900 8 ∷ Return 16 ∷ Return 144 ∷ Take 1008 8
-    ∷ Resize 1296 3000 16 ∷ Return 1216 ∷ Resize 1264 40 1 ∷ Return 16 ∷ Resize 1296 20000 16 ∷ Take 65000 8 ∷ Return 1040 ∷ Return 1296 ∷ [])
-    ≡ row 65536 ((0, 65504) ∷ []) ∷ row 16 ((128, 65376) ∷ []) ∷ row 144 ((1152, 64352) ∷ []) ∷ row 1216 ((1248, 64256) ∷ []) ∷ row 1264 ((1280, 64224) ∷ [])
-    ∷ row 1296 ((3296, 62208) ∷ []) ∷ row 0 ((128, 1024) ∷ (3296, 62208) ∷ []) ∷ row 144 ((1056, 96) ∷ (3296, 62208) ∷ [])
-    ∷ row 0 ((0, 128) ∷ (1056, 96) ∷ (3296, 62208) ∷ []) ∷ row 0 ((0, 1152) ∷ (3296, 62208) ∷ []) ∷ row 16 ((1024, 128) ∷ (3296, 62208) ∷ [])
-    ∷ row 1296 ((1024, 128) ∷ (4320, 61184) ∷ []) ∷ row 0 ((1024, 224) ∷ (4320, 61184) ∷ []) ∷ row 1040 ((1088, 192) ∷ (4320, 61184) ∷ [])
-    ∷ row 0 ((0, 1024) ∷ (1088, 192) ∷ (4320, 61184) ∷ []) ∷ row 1296 ((0, 1024) ∷ (1088, 192) ∷ (21312, 44192) ∷ []) ∷ no no_list
-    ∷ row 0 ((0, 1280) ∷ (21312, 44192) ∷ []) ∷ row 0 ((0, 65504) ∷ []) ∷ []
-unfolding run empty
-worked = refl

@@ -5,7 +5,8 @@ use Rattle.std.proofs.Common.{arith, ◌∙◌, inl, inr, ⊎_elim}
 use Rattle.choice.specs.Choice.{same?, le?}
 use Rattle.choice.specs.Says.{Says}
 use Rattle.script.specs.Memory.{Memory}
-use Rattle.script.specs.Script.{Script, read, done, ok, no, run, ◌>>=◌, must_eq, must_le, goes, halts, gives_done, gives_eq, gives_le, halts_eq, halts_le}
+use Rattle.script.specs.Script.{Script, read, done, ok, no, run, ◌>>=◌, must_eq, must_le}
+use Rattle.script.proofs.Script.{goes, halts, gives_done, gives_eq, gives_le, halts_eq, halts_le}
 use Rattle.entries.specs.Answers.{answer}
 
 pub record Decides {A : Type 0} (m : Memory) (s : Script A) (x : A) (P : Type 0) : Type 0 where

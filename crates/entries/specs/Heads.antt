@@ -5,7 +5,8 @@ use Rattle.std.proofs.Common.{arith, ap, sym, ◌∙◌, subst}
 use Rattle.choice.specs.Choice.{eq_yes, eq_no}
 use Rattle.choice.specs.Says.{Says}
 use Rattle.table.specs.Table.{entry}
-use Rattle.bits.specs.Map.{map_bit, map_bit_lt}
+use Rattle.bits.specs.Map.{map_bit}
+use Rattle.bits.proofs.Map.{map_bit_lt}
 use Rattle.chains.specs.Links.{next_of}
 use Rattle.lent.specs.Slices.{grains, tag_of, prev_at, head_at}
 use Rattle.entries.specs.Answers.{chosen}

@@ -4,9 +4,11 @@ use Rattle.std.proofs.Common.{arith, sym, ◌∙◌, ⊎_elim}
 use Rattle.std.proofs.Math.Path.{ap}
 use Rattle.choice.specs.Choice.{if_eq, eq_yes, eq_no, eq_case, same?, le?}
 use Rattle.table.specs.Table.{entry, enter, enter_own}
-use Rattle.bits.specs.Bit.{bit, set_bit, clear_bit, bit_zero, bit_suc, set_bit_same, set_bit_other, clear_bit_same, clear_bit_other}
+use Rattle.bits.specs.Bit.{bit, set_bit, clear_bit}
+use Rattle.bits.proofs.Bit.{bit_zero, bit_suc, set_bit_same, set_bit_other, clear_bit_same, clear_bit_other}
 use Rattle.bits.specs.TableBit.{table_bit, set_table_bit, clear_table_bit}
-use Rattle.bits.specs.Map.{map_bit, mark_bit, unmark_bit, map_bit_is, map_bit_lt, map_bit_enter}
+use Rattle.bits.specs.Map.{map_bit, mark_bit, unmark_bit}
+use Rattle.bits.proofs.Map.{map_bit_is, map_bit_lt, map_bit_enter}
 use Rattle.machine.specs.Machine.{map_words}
 use Rattle.machine.specs.Machine.{lists as list_count}
 use Rattle.chains.specs.Links.{mark_left}

@@ -4,9 +4,11 @@ use Rattle.std.proofs.Common.{arith, ◌∙◌, subst, ⊎_elim, eq-eqb, ne_eqb}
 use Rattle.std.proofs.Math.Path.{refl, ap, sym}
 use Rattle.choice.specs.Choice.{if_eq, eq_yes, eq_no, same?}
 use Rattle.choice.specs.Says.{Says}
-use Rattle.bits.specs.Map.{map_bit, map_bit_lt}
+use Rattle.bits.specs.Map.{map_bit}
+use Rattle.bits.proofs.Map.{map_bit_lt}
 use Rattle.script.specs.Memory.{Memory, Next, Prev, Mark}
-use Rattle.script.specs.Script.{Script, ok, run, ◌>>=◌, ◌>>◌, must_eq, must_le, reads, gives_done}
+use Rattle.script.specs.Script.{Script, ok, run, ◌>>=◌, ◌>>◌, must_eq, must_le}
+use Rattle.script.proofs.Script.{reads, gives_done}
 use Rattle.tags.specs.Tag.{Tag, flags, START, FREE, SMALL}
 use Rattle.tags.specs.Decode.{Busy}
 use Rattle.chains.specs.Links.{Head}

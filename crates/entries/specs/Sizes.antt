@@ -4,9 +4,11 @@ use Rattle.std.specs.Prelude.{ℕ, suc, ◌-◌, ◌*◌, ◌≤◌, ◌<◌, �
 use Rattle.std.proofs.Common.{arith, ◌∙◌}
 use Rattle.std.proofs.Math.Path.{ap}
 use Rattle.choice.specs.Choice.{eq_yes, eq_no}
-use Rattle.class.specs.Class.{list_of, list_small, list_large}
+use Rattle.class.specs.Class.{list_of}
+use Rattle.class.proofs.Class.{list_small, list_large}
 use Rattle.script.specs.Memory.{Memory}
-use Rattle.script.specs.Script.{ok, no, run, goes, halts, gives_done, gives_le, halts_le}
+use Rattle.script.specs.Script.{ok, no, run}
+use Rattle.script.proofs.Script.{goes, halts, gives_done, gives_le, halts_le}
 use Rattle.machine.specs.Machine.{classes, piece}
 use Rattle.machine.specs.Machine.{lists as list_count}
 use Rattle.plans.specs.Checks.{must_list, see_head, see_rest, see_join}

@@ -5,15 +5,17 @@ use Rattle.std.specs.Prelude.{◌≡◌, List, []}
 use Rattle.std.proofs.Math.Path.{ap}
 use Rattle.std.proofs.Math.Logic.{⊎_elim}
 use Rattle.class.specs.Class.{list_of}
-use Rattle.invariants.specs.Regions.{two_grains}
+use Rattle.invariants.proofs.Regions.{two_grains}
 use Rattle.script.specs.Memory.{Memory, Write}
-use Rattle.script.specs.Script.{ok, Gives, inv_bind, inv_done}
+use Rattle.script.specs.Script.{ok, Gives}
+use Rattle.script.proofs.Script.{inv_bind, inv_done}
 use Rattle.script.specs.Script.{over as overlaid}
 use Rattle.sound.specs.Checks.{see_head}
 use Rattle.sound.specs.Plans.{Plan}
 use Rattle.sound.specs.RegionPlan.{Layout, lay_script}
-use Rattle.sound.specs.RegionChecked.{RegionChecked, region_checked}
-use Rattle.sound.specs.Inverted.{inv_if_le}
+use Rattle.sound.specs.RegionChecked.{RegionChecked}
+use Rattle.sound.proofs.RegionChecked.{region_checked}
+use Rattle.sound.proofs.Inverted.{inv_if_le}
 use Rattle.sound.specs.Calls.{Call}
 use Rattle.sound.specs.Runs.{Reply, yes}
 use Rattle.slices.specs.Slices.{Slices, memory_of}

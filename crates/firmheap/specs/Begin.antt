@@ -6,7 +6,7 @@ use Rattle.free_list.specs.Lent.{lent}
 use Rattle.tables.specs.Length.{LongEnough}
 use Rattle.tables.specs.Initial.{Initial}
 use Rattle.calls.specs.Begins.{short, begun}
-use Rattle.calls.specs.Promised.{initialised}
+use Rattle.calls.proofs.Promised.{initialised}
 use Rattle.firmheap.specs.Contract.{Initialises}
 
 module _ (a l v t : List ℕ) (z : length a < 2 ^ 64) where

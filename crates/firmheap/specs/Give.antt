@@ -8,7 +8,7 @@ use Rattle.definition.specs.Units.{first_grain, whole_grains}
 use Rattle.script.specs.Script.{run}
 use Rattle.sound.specs.Plans.{Plan}
 use Rattle.sound.specs.RegionPlan.{region_script}
-use Rattle.sound.specs.RegionChecked.{region_checked}
+use Rattle.sound.proofs.RegionChecked.{region_checked}
 use Rattle.sound.specs.Calls.{Call, Give, Append, script_of}
 use Rattle.sound.specs.Runs.{Reply, yes, not}
 use Rattle.slices.specs.Decode.{grains}
@@ -16,7 +16,7 @@ use Rattle.slices.specs.Slices.{Slices, memory_of, stores}
 use Rattle.free_list.specs.Lent.{lent}
 use Rattle.free_list.specs.Answers.{unless_no, unless_ok}
 use Rattle.calls.specs.Bytes.{ByteCall, insert, append, following, Asks, give, follow, bytes, in_bytes}
-use Rattle.calls.specs.Promised.{promised}
+use Rattle.calls.proofs.Promised.{promised}
 use Rattle.firmheap.specs.Contract.{Inserts, Appends}
 use Rattle.calls.specs.Performs.{Long, Inside, outcome, short, Goes, stored, Performs, early, refused, granted}
 use Rattle.region.specs.Admit.{most_of}

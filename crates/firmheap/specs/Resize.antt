@@ -17,7 +17,7 @@ use Rattle.reallocate.specs.declared.Resized.{Resized}
 use Rattle.reallocate.specs.Does.{Does, heard, resized, heard_no, Resizes}
 use Rattle.calls.specs.Bytes.{reallocate, Asks, resize, resize_range, resize_unsuited, resize_unkind, in_bytes}
 use Rattle.calls.specs.Performs.{short, wrong, outside, outcome, Goes, Performs, early, refused, granted}
-use Rattle.calls.specs.Promised.{reallocated}
+use Rattle.calls.proofs.Promised.{reallocated}
 use Rattle.firmheap.specs.Contract.{Reallocates}
 
 -- what is done in half grains is what the call does

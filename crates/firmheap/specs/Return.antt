@@ -17,7 +17,7 @@ use Rattle.deallocate.specs.declared.Plan.{Plan as BackPlan}
 use Rattle.deallocate.specs.Shown.{BackPlanned, back_writes}
 use Rattle.calls.specs.Bytes.{deallocate, Asks, unsuited, unkind, back}
 use Rattle.calls.specs.Performs.{short, wrong, outside, Goes, Performs, early, refused, granted}
-use Rattle.calls.specs.Promised.{deallocated}
+use Rattle.calls.proofs.Promised.{deallocated}
 use Rattle.firmheap.specs.Contract.{Deallocates}
 
 -- a payload that is not behind the arena has its bit in a live table that is long enough

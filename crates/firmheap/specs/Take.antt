@@ -16,7 +16,7 @@ use Rattle.request.specs.declared.Request.{Request}
 use Rattle.request.specs.Asked.{AskedIf, Asked}
 use Rattle.calls.specs.Bytes.{allocate, range, take}
 use Rattle.calls.specs.Performs.{short, wrong, Goes, Performs, early, refused, granted}
-use Rattle.calls.specs.Promised.{allocated}
+use Rattle.calls.proofs.Promised.{allocated}
 use Rattle.firmheap.specs.Contract.{Allocates}
 
 -- the payload's bit is in a live table that is long enough

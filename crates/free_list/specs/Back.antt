@@ -6,12 +6,14 @@ use Rattle.choice.specs.Choice.{if_eq, eq_yes, eq_no, le?, same?}
 use Rattle.choice.specs.Says.{Says}
 use Rattle.word.specs.Word.{word_at}
 use Rattle.script.specs.Memory.{Memory, Next, Prev, none}
-use Rattle.script.specs.Script.{ok, no, run, ◌>>◌, goes, halts, reads, gives_done, gives_eq, gives_le, halts_eq, halts_le}
+use Rattle.script.specs.Script.{ok, no, run, ◌>>◌}
+use Rattle.script.proofs.Script.{goes, halts, reads, gives_done, gives_eq, gives_le, halts_eq, halts_le}
 use Rattle.sound.specs.Checks.{must_grain, must_lead, must_back}
 use Rattle.slices.specs.Decode.{grains, wrong_link}
-use Rattle.slices.specs.Arena.{link_at, link_in}
-use Rattle.slices.specs.Heads.{next_grain}
-use Rattle.slices.specs.Slices.{memory_next, memory_prev}
+use Rattle.slices.specs.Arena.{link_at}
+use Rattle.slices.proofs.Arena.{link_in}
+use Rattle.slices.proofs.Heads.{next_grain}
+use Rattle.slices.proofs.Slices.{memory_next, memory_prev}
 use Rattle.header.specs.Turned.{turned}
 use Rattle.header.specs.Told.{leads_yes, leads_no}
 use Rattle.free_list.specs.Lent.{lent, held, no_link, link, below_none, link_none, link_some, link_grain, link_past}

@@ -7,13 +7,15 @@ use Rattle.choice.specs.Choice.{if_eq, eq_yes, eq_no, same?, le?}
 use Rattle.choice.specs.Says.{Says}
 use Rattle.word.specs.Word.{word_at}
 use Rattle.table.specs.Table.{entry}
-use Rattle.bits.specs.Map.{map_words, lists, map_bit, map_bit_lt}
+use Rattle.bits.specs.Map.{map_words, lists, map_bit}
+use Rattle.bits.proofs.Map.{map_bit_lt}
 use Rattle.script.specs.Memory.{Memory, Next, Prev, Mark, none, root}
-use Rattle.script.specs.Script.{Script, ok, no, run, done, ◌>>◌, must_eq, goes, halts, reads, gives_done, gives_eq, gives_le, halts_eq, halts_le}
+use Rattle.script.specs.Script.{Script, ok, no, run, done, ◌>>◌, must_eq}
+use Rattle.script.proofs.Script.{goes, halts, reads, gives_done, gives_eq, gives_le, halts_eq, halts_le}
 use Rattle.sound.specs.Checks.{must_grain, must_lead, see_head}
 use Rattle.slices.specs.Decode.{grains}
-use Rattle.slices.specs.Arena.{link_in}
-use Rattle.slices.specs.Slices.{memory_mark}
+use Rattle.slices.proofs.Arena.{link_in}
+use Rattle.slices.proofs.Slices.{memory_mark}
 use Rattle.header.specs.Turned.{turned}
 use Rattle.free_list.specs.Lent.{lent, held, no_link, link, link_none, link_some, link_grain, link_past}
 use Rattle.free_list.specs.Answers.{answer, told}

@@ -7,7 +7,7 @@ use Rattle.script.specs.Memory.{Memory}
 use Rattle.script.specs.Script.{Gives}
 use Rattle.sound.specs.Checks.{see_entry, see_head}
 use Rattle.sound.specs.Checks.{Entry as Neighbours}
-use Rattle.sound.specs.Checked.{entry_checked, head_checked}
+use Rattle.sound.proofs.Checked.{entry_checked, head_checked}
 use Rattle.slices.specs.Decode.{ValidLink, grains}
 use Rattle.header.specs.Turned.{turned}
 use Rattle.free_list.specs.declared.Entry.{Entry}

@@ -6,7 +6,8 @@ use Rattle.choice.specs.Choice.{eq_yes, eq_no, eq_case, le_case}
 use Rattle.word.specs.Word.{word_at, put_at, put_at_length}
 use Rattle.bits.specs.Map.{map_words, lists}
 use Rattle.script.specs.Memory.{Memory, Next, Prev, none}
-use Rattle.slices.specs.Decode.{link_of, link_word, grains, top_of, grains_keep}
+use Rattle.slices.specs.Decode.{link_of, link_word, grains, top_of}
+use Rattle.slices.proofs.Decode.{grains_keep}
 use Rattle.slices.specs.Slices.{Slices, memory_of}
 use Rattle.header.specs.Turned.{turned, grains_few, turned_in, turned_out}
 use Rattle.header.specs.Told.{link_leads}

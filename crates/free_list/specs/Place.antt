@@ -6,7 +6,8 @@ use Rattle.std.specs.Bool.{beq}
 use Rattle.choice.specs.Choice.{eq_yes, eq_no, same?}
 use Rattle.choice.specs.Says.{Says}
 use Rattle.script.specs.Memory.{Memory, Next, none}
-use Rattle.script.specs.Script.{Script, must_differ, ok, no, run, ◌>>◌, goes, halts, gives_eq, gives_le, gives_differ, halts_eq, halts_le, halts_differ}
+use Rattle.script.specs.Script.{Script, must_differ, ok, no, run, ◌>>◌}
+use Rattle.script.proofs.Script.{goes, halts, gives_eq, gives_le, gives_differ, halts_eq, halts_le, halts_differ}
 use Rattle.sound.specs.Checks.{must_grain, must_lead, see_prev}
 use Rattle.slices.specs.Decode.{grains}
 use Rattle.header.specs.Turned.{turned, grains_few, turned_is}

@@ -6,13 +6,14 @@ use Rattle.word.specs.Word.{word_at}
 use Rattle.table.specs.Table.{entry}
 use Rattle.bits.specs.Map.{map_words, lists, map_bit}
 use Rattle.script.specs.Memory.{Memory, Next, Prev, Mark, root}
-use Rattle.script.specs.Script.{Result, ok, run, ◌>>◌, must_eq, goes, halts, reads, done, gives_done, gives_eq, halts_eq}
+use Rattle.script.specs.Script.{Result, ok, run, ◌>>◌, must_eq, done}
+use Rattle.script.proofs.Script.{goes, halts, reads, gives_done, gives_eq, halts_eq}
 use Rattle.sound.specs.Checks.{must_back, see_prev, see_entry, see_head}
 use Rattle.sound.specs.Checks.{Entry as Neighbours}
 use Rattle.slices.specs.Decode.{grains}
-use Rattle.slices.specs.Arena.{link_in}
-use Rattle.slices.specs.Heads.{next_root, head_in}
-use Rattle.slices.specs.Slices.{memory_next, memory_mark}
+use Rattle.slices.proofs.Arena.{link_in}
+use Rattle.slices.proofs.Heads.{next_root, head_in}
+use Rattle.slices.proofs.Slices.{memory_next, memory_mark}
 use Rattle.free_list.specs.declared.Entry.{Entry}
 use Rattle.free_list.specs.declared.Head.{Head}
 use Rattle.free_list.specs.Lent.{lent, held, link}

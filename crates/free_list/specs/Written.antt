@@ -12,8 +12,9 @@ use Rattle.script.specs.Memory.{Next, Prev, Mark, none, root, Write, ◌at◌≔
 use Rattle.slices.specs.Decode.{link_word, top_of}
 use Rattle.slices.specs.Arena.{put_link}
 use Rattle.slices.specs.Heads.{put_head}
-use Rattle.slices.specs.Slices.{Slices, stores, store_root, store_next}
-use Rattle.slices.specs.Kept.{stores_append, stores_lengths}
+use Rattle.slices.specs.Slices.{Slices, stores}
+use Rattle.slices.proofs.Slices.{store_root, store_next}
+use Rattle.slices.proofs.Kept.{stores_append, stores_lengths}
 use Rattle.free_list.specs.Lent.{lent, Room}
 
 -- whatever the live bits v and the regions t are, which stay

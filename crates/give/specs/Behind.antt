@@ -7,7 +7,8 @@ use Rattle.std.proofs.Math.Path.{refl, ap, sym}
 use Rattle.std.proofs.Math.Logic.{⊎_elim}
 use Rattle.choice.specs.Choice.{eq_case, same?, upd, upd_same, upd_other}
 use Rattle.class.specs.Class.{list_of}
-use Rattle.script.specs.Memory.{Memory, Next, Prev, Mark, none, root, Write, apply, apply_append}
+use Rattle.script.specs.Memory.{Memory, Next, Prev, Mark, none, root, Write, apply}
+use Rattle.script.proofs.Memory.{apply_append}
 use Rattle.sound.specs.Links.{push_writes}
 use Rattle.sound.specs.RegionPlan.{piece_writes}
 use Rattle.region.specs.Pieces.{head_of, full_writes}

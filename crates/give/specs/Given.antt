@@ -5,9 +5,9 @@ use Rattle.choice.specs.Choice.{eq_yes, eq_no}
 use Rattle.table.specs.Table.{entry}
 use Rattle.script.specs.Memory.{Write}
 use Rattle.sound.specs.RegionPlan.{piece_writes, entry_writes}
-use Rattle.slices.specs.Decode.{grains_keep}
+use Rattle.slices.proofs.Decode.{grains_keep}
 use Rattle.slices.specs.Slices.{Slices, stores}
-use Rattle.slices.specs.Kept.{stores_append, stores_lengths}
+use Rattle.slices.proofs.Kept.{stores_append, stores_lengths}
 use Rattle.free_list.specs.Lent.{lent, link, link_keep, leads_keep}
 use Rattle.free_list.specs.Written.{Written, written_none, written_then, written_as, written_length}
 use Rattle.region.specs.Pieces.{full_writes}

@@ -5,10 +5,12 @@ use Rattle.std.proofs.Common.{arith, ap, sym, ◌∙◌, inl, inr, ⊎_elim}
 use Rattle.choice.specs.Choice.{if_eq, eq_no, eq_case, le_case, same?}
 use Rattle.class.specs.Class.{list_of}
 use Rattle.script.specs.Memory.{Memory, Next, Prev, Mark, none, root, apply}
-use Rattle.script.specs.Script.{Script, no, run, done, ◌>>◌, must_eq, Gives, goes, halts, reads, gives_eq, halts_eq}
-use Rattle.script.specs.Locality.{Reads, same_run}
+use Rattle.script.specs.Script.{Script, no, run, done, ◌>>◌, must_eq, Gives}
+use Rattle.script.proofs.Script.{goes, halts, reads, gives_eq, halts_eq}
+use Rattle.script.specs.Locality.{Reads}
+use Rattle.script.proofs.Locality.{same_run}
 use Rattle.sound.specs.Checks.{must_grain, must_lead, see_head}
-use Rattle.sound.specs.Seen.{gives_grain}
+use Rattle.sound.proofs.Seen.{gives_grain}
 use Rattle.region.specs.Pushed.{head_there}
 use Rattle.region.specs.Pieces.{head_of, full_writes}
 use Rattle.give.specs.Behind.{Behind, row_first, row_second, row_other, row_next, row_mark}

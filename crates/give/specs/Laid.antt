@@ -4,7 +4,8 @@ use Rattle.std.specs.Prelude.{ℕ, zero, suc, ◌+◌, ◌-◌, ◌*◌, ◌^◌
 use Rattle.std.proofs.Common.{arith, ◌∙◌}
 use Rattle.class.specs.Class.{list_of}
 use Rattle.script.specs.Memory.{Memory, none, Write, apply}
-use Rattle.script.specs.Script.{ok, no, run, Gives, goes, halts, gives_done}
+use Rattle.script.specs.Script.{ok, no, run, Gives}
+use Rattle.script.proofs.Script.{goes, halts, gives_done}
 use Rattle.sound.specs.Checks.{see_head}
 use Rattle.sound.specs.RegionPlan.{entry_writes, piece_writes, lay_script}
 use Rattle.region.specs.Admit.{laying}

@@ -11,7 +11,7 @@ use Rattle.script.specs.Memory.{Memory, Next, none, root, apply}
 use Rattle.script.specs.Script.{ok, run}
 use Rattle.sound.specs.Checks.{see_head}
 use Rattle.slices.specs.Decode.{grains}
-use Rattle.slices.specs.Slices.{memory_mark}
+use Rattle.slices.proofs.Slices.{memory_mark}
 use Rattle.header.specs.Turned.{turned, grains_few}
 use Rattle.header.specs.Told.{link_leads, link_only}
 use Rattle.free_list.specs.declared.Head.{Head}

@@ -11,7 +11,7 @@ use Rattle.class.specs.Class.{list_of}
 use Rattle.script.specs.Memory.{Memory, Write}
 use Rattle.script.specs.Script.{no, run, Gives}
 use Rattle.sound.specs.Checks.{see_head}
-use Rattle.sound.specs.Checked.{head_checked}
+use Rattle.sound.proofs.Checked.{head_checked}
 use Rattle.sound.specs.RegionPlan.{piece_writes, lay_script}
 use Rattle.slices.specs.Decode.{grains}
 use Rattle.free_list.specs.declared.Head.{Head}

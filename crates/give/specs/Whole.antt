@@ -6,7 +6,7 @@ use Rattle.script.specs.Memory.{Memory}
 use Rattle.script.specs.Script.{no, run}
 use Rattle.sound.specs.RegionPlan.{region_script}
 use Rattle.slices.specs.Decode.{grains}
-use Rattle.slices.specs.Slices.{memory_table}
+use Rattle.slices.proofs.Slices.{memory_table}
 use Rattle.free_list.specs.Lent.{held, lent}
 use Rattle.region.specs.Admit.{most_of, laying, Goes, Givable, Admitted, Answered}
 use Rattle.give.specs.declared.Plan.{Plan as PlanAnswer}

@@ -6,10 +6,11 @@ use Rattle.choice.specs.Says.{Says}
 use Rattle.class.specs.Class.{list_of}
 use Rattle.table.specs.Table.{entry}
 use Rattle.script.specs.Memory.{Memory, Next, Prev}
-use Rattle.script.specs.Script.{Script, done, run, get, must_eq, goes, halts, inv_bind, inv_get, inv_done, inv_eq, ◌>>=◌, ◌>>◌}
+use Rattle.script.specs.Script.{Script, done, run, get, must_eq, ◌>>=◌, ◌>>◌}
+use Rattle.script.proofs.Script.{goes, halts, inv_bind, inv_get, inv_done, inv_eq}
 use Rattle.machine.specs.Machine.{piece}
 use Rattle.lent.specs.Slices.{grains, memory_of, tag_words, next_at, prev_at}
-use Rattle.lent.specs.TagWords.{count_fits}
+use Rattle.lent.proofs.TagWords.{count_fits}
 use Rattle.plans.specs.Checks.{must_free, must_be, see_free}
 use Rattle.plans.specs.Checked.{whole_checked}
 use Rattle.plans.specs.Allocate.{see_first}

@@ -2,18 +2,22 @@
 use Rattle.std.specs.Prelude.{ℕ, suc, ◌-◌, ◌*◌, ◌≤◌, ◌<◌, ◌≡◌, refl, true, false, List}
 use Rattle.std.proofs.Common.{arith, ◌∙◌}
 use Rattle.std.proofs.Math.Path.{sym}
-use Rattle.bits.specs.First.{first_set, first_from, first_agree}
+use Rattle.bits.specs.First.{first_set}
+use Rattle.bits.proofs.First.{first_from, first_agree}
 use Rattle.bits.specs.Map.{map_bit}
-use Rattle.class.specs.Class.{list_of, start_of, start_fits, start_large}
+use Rattle.class.specs.Class.{list_of, start_of}
+use Rattle.class.proofs.Class.{start_fits, start_large}
 use Rattle.definition.specs.Calls.{wanted, place, keeps}
-use Rattle.invariants.specs.Placing.{keeps_wanted, wanted_some}
+use Rattle.invariants.specs.Placing.{wanted_some}
+use Rattle.invariants.proofs.Placing.{keeps_wanted}
 use Rattle.script.specs.Memory.{Memory, Mark}
-use Rattle.script.specs.Script.{Script, ok, no, done, run, ◌>>=◌, get, unless_le, searches, reads, goes, halts, gives_done, gives_le, halts_le, ◌>>◌}
+use Rattle.script.specs.Script.{Script, ok, no, done, run, ◌>>=◌, get, unless_le, ◌>>◌}
+use Rattle.script.proofs.Script.{searches, reads, goes, halts, gives_done, gives_le, halts_le}
 use Rattle.machine.specs.Machine.{classes, piece}
 use Rattle.machine.specs.Machine.{lists as list_count}
 use Rattle.chains.specs.Links.{Head}
 use Rattle.lent.specs.Slices.{grains, head_at}
-use Rattle.lent.specs.Fields.{memory_mark, memory_head}
+use Rattle.lent.proofs.Fields.{memory_mark, memory_head}
 use Rattle.plans.specs.Checks.{see_rest}
 use Rattle.plans.specs.Allocate.{Taken, see_first, see_taken}
 use Rattle.entries.specs.Answers.{slices, held, verdict, told}

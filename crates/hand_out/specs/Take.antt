@@ -3,18 +3,20 @@ use Rattle.std.specs.Prelude.{ℕ, ◌<◌, ◌≡◌, List, [], length}
 use Rattle.std.proofs.Common.{arith, ◌∙◌}
 use Rattle.table.specs.Table.{entry}
 use Rattle.definition.specs.Calls.{place, keeps}
-use Rattle.invariants.specs.Placing.{place_inside}
+use Rattle.invariants.proofs.Placing.{place_inside}
 use Rattle.script.specs.Memory.{Memory}
-use Rattle.script.specs.Script.{ok, no, run, goes, halts}
+use Rattle.script.specs.Script.{ok, no, run}
+use Rattle.script.proofs.Script.{goes, halts}
 use Rattle.machine.specs.Machine.{words, classes}
-use Rattle.tags.specs.Within.{allocate_field}
+use Rattle.tags.proofs.Within.{allocate_field}
 use Rattle.plans.specs.Allocate.{Taken, taken_steps, allocate_deed, see_taken, allocate_script}
 use Rattle.plans.specs.Deeds.{plan_of}
-use Rattle.plans.specs.Planned.{plan_gives, taken_checked}
+use Rattle.plans.specs.Planned.{taken_checked}
+use Rattle.plans.proofs.Planned.{plan_gives}
 use Rattle.plans.specs.StorableParts.{size_short}
 use Rattle.plans.specs.StorableCalls.{taken_fits, taken_ready}
 use Rattle.lent.specs.Slices.{grains}
-use Rattle.lent.specs.Shown.{grains_below}
+use Rattle.lent.proofs.Shown.{grains_below}
 use Rattle.stamps.specs.Bounds.{CanAllocate}
 use Rattle.stamps.specs.Stores.{tag_stores}
 use Rattle.entries.specs.Answers.{held, Enough}

@@ -8,9 +8,11 @@ use Rattle.choice.specs.Choice.{if_eq, eq_yes, eq_no, le_yes, eq_case, le_case, 
 use Rattle.word.specs.Word.{word_at}
 use Rattle.script.specs.Memory.{none, free_word, used_word}
 use Rattle.sound.specs.Checks.{Word, is_free, is_used, is_last, is_bad, word_of}
-use Rattle.sound.specs.Seen.{word_free, word_used, word_last}
-use Rattle.slices.specs.Decode.{size_of, link_of, wrong_size, decoded_used, grains, top_of}
-use Rattle.slices.specs.Arena.{size_at, link_at, size_in, link_in}
+use Rattle.sound.proofs.Seen.{word_free, word_used, word_last}
+use Rattle.slices.specs.Decode.{size_of, link_of, wrong_size, grains, top_of}
+use Rattle.slices.proofs.Decode.{decoded_used}
+use Rattle.slices.specs.Arena.{size_at, link_at}
+use Rattle.slices.proofs.Arena.{size_in, link_in}
 use Rattle.header.specs.Turned.{turned, turned_in, turned_out, grains_few}
 
 abbrev pub free_of : Word → ℕ

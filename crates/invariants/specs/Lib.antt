@@ -4,12 +4,10 @@ pub mod Order
 pub mod Members
 pub mod Pieces
 pub mod Moves
-pub mod Neighbours
 pub mod Placing
 pub mod Kept
 pub mod Promises
 pub mod NotLive
-pub mod Live
 pub mod Resized
 pub mod Cramped
 pub mod Gaps

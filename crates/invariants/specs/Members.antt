@@ -1,6 +1,6 @@
 -- Members of the free lists: what a push and a drop do to them.
-use Rattle.std.specs.Prelude.{ℕ, ◌+◌, ◌≡◌, refl, List, [], ◌∷◌, ◌++◌, ◌⊎◌}
-use Rattle.std.proofs.Common.{ap, sym, ◌∙◌, inl, inr, ⊎_elim}
+use Rattle.std.specs.Prelude.{ℕ, ◌≡◌, refl, List, [], ◌∷◌, ◌++◌, ◌⊎◌}
+use Rattle.std.proofs.Common.{sym, ◌∙◌, inl, inr, ⊎_elim}
 use Rattle.choice.specs.Choice.{eq_yes, eq_no, upd_each, same?}
 use Rattle.definition.specs.Lists.{Lists, remove, push, drop}
 
@@ -52,19 +52,6 @@ pub record Parts (y : ℕ) (l : List ℕ) : Type 0 where
   pub back : List ℕ
   pub is : l ≡ front ++ y ∷ back
   pub less : remove y l ≡ front ++ back
-
-pub parts : (y : ℕ) (l : List ℕ) → NoDup l → Mem y l → Parts y l
-unfolding remove
-parts y [] d x'' = elim x'' [ ]
-parts y (z ∷ l) d (inl e) = record { front = []; back = l; is = rw e refl; less = eq_yes z y _ _ (sym e) }
-parts y (z ∷ l) d (inr h) =
-    let p = parts y l d.1 h in
-    record {
-      front = z ∷ p.front;
-      back = p.back;
-      is = ap (λ (a : List ℕ). z ∷ a) p.is;
-      less = eq_no z y _ _ (λ e. d.0 (rw e h)) ∙ ap (λ (a : List ℕ). z ∷ a) p.less;
-    }
 
 -- ---- all lists: no block twice, in one list or in two
 

@@ -1,12 +1,12 @@
 -- What holds of every heap (`Ok`), and the moves of which all calls are made. Each move keeps it.
-use Rattle.std.specs.Prelude.{ℕ, ◌+◌, ◌≤◌, ◌<◌, ◌≡◌, refl, List, [], ◌∷◌, ◌⊎◌}
+use Rattle.std.specs.Prelude.{ℕ, ◌+◌, ◌≤◌, ◌≡◌, refl, List, [], ◌∷◌, ◌⊎◌}
 use Rattle.std.proofs.Common.{arith, add_assoc, ap, sym, subst, inl, inr, ⊎_elim}
 use Rattle.choice.specs.Choice.{upd_same}
 use Rattle.class.specs.Class.{list_of}
 use Rattle.definition.specs.Blocks.{Block, free, used, last, gap, total, ◌⟨⟩◌}
 use Rattle.definition.specs.Lists.{Lists, push, drop}
 use Rattle.definition.specs.Calls.{Heap}
-use Rattle.invariants.specs.Order.{out, busy, idle, side_l, Fits, Inside, Ordered, OrderedL, order_split, order_join, BlockAt, LeftAt, at_split, at_join, at_here, at_low, left_lt, used_fits, apart, Apart, same, before, behind, at_whole}
+use Rattle.invariants.specs.Order.{out, busy, idle, side_l, Fits, Inside, Ordered, OrderedL, order_split, order_join, BlockAt, LeftAt, at_split, at_join, at_here, at_low, left_lt, used_fits}
 use Rattle.invariants.specs.Members.{Mem, Apiece, mem_drop, mem_dropped, dropped, apiece_drop, mem_push, mem_pushed, apiece_push}
 use Rattle.invariants.specs.Pieces.{pieces, pieces_behind, Listed}
 
@@ -27,12 +27,6 @@ Ok c h = Sane c h.blocks h.lists
 pub free_used : {s d t : ℕ} → used s d ≡ free t → ⊥
 free_used e = let z : ◌≡◌ {A = ℕ} 0 1 = cc in omega arith
 
-pub free_last_lem : {t : ℕ} → last ≡ free t → ⊥
-free_last_lem e = let z : ◌≡◌ {A = ℕ} 0 1 = cc in omega arith
-
-pub free_gap : {t : ℕ} → gap ≡ free t → ⊥
-free_gap e = let z : ◌≡◌ {A = ℕ} 0 1 = cc in omega arith
-
 -- no free block stands where one is in use
 pub used_at : (l r : List Block) (s d t : ℕ) → OrderedL l → 1 ≤ s → BlockAt (total l) (free t) 0 (l ⟨⟩ used s d ∷ r) → ⊥
 used_at l r s d t w p h = go (at_split (total l) (free t) l (used s d ∷ r) h)
@@ -41,15 +35,6 @@ used_at l r s d t w p h = go (at_split (total l) (free t) l (used s d ∷ r) h)
     go (inl h) = omega (arith, left_lt (total l) (free t) l w h)
     go (inr (inl h)) = free_used h.1
     go (inr (inr h)) = omega (arith, at_low (total l) (free t) (total l + s) r h)
-
--- no grain of a used block is in a list
-pub used_unlisted : (c : ℕ) (xs : List Block) (f : Lists) (y s d : ℕ) → Sane c xs f → BlockAt y (used s d) 0 xs → (u : ℕ) → y ≤ u → u < y + s → (k : ℕ) → Mem u (f k) → ⊥
-used_unlisted c xs f y s d o h u p q k i = let g = o.exact.there k u i in go g.0 g.1 (apart y u 0 (used s d) (free g.0) xs h g.1)
-  where
-    go : (t : ℕ) → BlockAt u (free t) 0 xs → Apart y (used s d) u (free t) → ⊥
-    go t b (same a e) = free_used e
-    go t b (before a) = omega arith
-    go t b (behind a) = omega (arith, at_whole u (free t) 0 out xs o.order b)
 
 module _ (c : ℕ) (f : Lists) (l r : List Block) (s d : ℕ) where
   -- occupy: a free block becomes used, and leaves its list
@@ -144,15 +129,15 @@ recast c f a b r e w v p q n o =
     }
 
 module _ (c : ℕ) (f : Lists) (l r : List Block) (s d t e : ℕ) where
-  two_pieces : (v n : ℕ) → pieces n (used s d ∷ used t e ∷ r) ≡ pieces n (used (s + t) v ∷ r)
+  pub two_pieces : (v n : ℕ) → pieces n (used s d ∷ used t e ∷ r) ≡ pieces n (used (s + t) v ∷ r)
   two_pieces v n = ap (λ (m : ℕ). pieces m r) (add_assoc n s t)
 
-  two_one : (v y u : ℕ) → LeftAt y (free u) (used t e ∷ used s d ∷ l) → LeftAt y (free u) (used (s + t) v ∷ l)
+  pub two_one : (v y u : ℕ) → LeftAt y (free u) (used t e ∷ used s d ∷ l) → LeftAt y (free u) (used (s + t) v ∷ l)
   two_one v y u (inl h) = absurd (free_used h.1)
   two_one v y u (inr (inl h)) = absurd (free_used h.1)
   two_one v y u (inr (inr h)) = inr h
 
-  one_two : (v y u : ℕ) → LeftAt y (free u) (used (s + t) v ∷ l) → LeftAt y (free u) (used t e ∷ used s d ∷ l)
+  pub one_two : (v y u : ℕ) → LeftAt y (free u) (used (s + t) v ∷ l) → LeftAt y (free u) (used t e ∷ used s d ∷ l)
   one_two v y u (inl h) = absurd (free_used h.1)
   one_two v y u (inr h) = inr (inr h)
 
@@ -162,24 +147,3 @@ module _ (c : ℕ) (f : Lists) (l r : List Block) (s d t e : ℕ) where
       (λ w. (used_fits (side_l l) (s + t) v, (omega (arith, w.1.0), i), w.2.2))
       (λ w. w) (two_one v) (one_two v)
       (subst (Listed c) (pieces_behind l (used s d ∷ used t e ∷ r) (used (s + t) v ∷ r) (two_pieces v) 0))
-
-  -- part: a used block becomes two
-  pub part : (v : ℕ) → 1 ≤ s → 1 ≤ t → Inside s d → Inside t e → Sane c (l ⟨⟩ used (s + t) v ∷ r) f → Sane c (l ⟨⟩ used s d ∷ used t e ∷ r) f
-  part v p q i j = recast c f (used (s + t) v ∷ l) (used t e ∷ used s d ∷ l) r (omega arith)
-      (λ w. (tt, (q, j), (used_fits (side_l l) s d, (p, i), w.2)))
-      (λ w. w) (one_two v) (two_one v)
-      (subst (Listed c) (sym (pieces_behind l (used s d ∷ used t e ∷ r) (used (s + t) v ∷ r) (two_pieces v) 0)))
-
--- the payload of a used block is placed anew
-pub replace : (c : ℕ) (f : Lists) (l r : List Block) (s d v : ℕ) → Inside s v → Sane c (l ⟨⟩ used s d ∷ r) f → Sane c (l ⟨⟩ used s v ∷ r) f
-replace c f l r s d v i = recast c f (used s d ∷ l) (used s v ∷ l) r refl
-    (λ w. (used_fits (side_l l) s v, (w.1.0, i), w.2)) (λ w. w) to to'
-    (subst (Listed c) (pieces_behind l (used s d ∷ r) (used s v ∷ r) (λ n. refl) 0))
-  where
-    to : (y u : ℕ) → LeftAt y (free u) (used s d ∷ l) → LeftAt y (free u) (used s v ∷ l)
-    to y u (inl h) = absurd (free_used h.1)
-    to y u (inr h) = inr h
-
-    to' : (y u : ℕ) → LeftAt y (free u) (used s v ∷ l) → LeftAt y (free u) (used s d ∷ l)
-    to' y u (inl h) = absurd (free_used h.1)
-    to' y u (inr h) = inr h

@@ -65,8 +65,3 @@ pub free_listed : (c : ℕ) (l r : List Block) (s : ℕ) → Ordered idle r → 
 free_listed c l r s o h =
     let i = listed_behind c 0 l (free s ∷ r) h in
     omega (arith, ahead c r (i.0 + s) idle tt o i.1)
-
-pub used_listed : (c : ℕ) (l r : List Block) (s d : ℕ) → Ordered busy r → Listed c (pieces 0 (l ⟨⟩ used s d ∷ r)) → s < 2 ^ c
-used_listed c l r s d o h =
-    let i = listed_behind c 0 l (used s d ∷ r) h in
-    omega (arith, ahead c r (i.0 + s) busy tt o i.1)

@@ -3,9 +3,7 @@ pub mod Slices
 pub mod TagWords
 pub mod Fields
 pub mod Kept
-pub mod Stored
 pub mod Shifted
 pub mod Ample
 pub mod Held
-pub mod Shown
 pub mod Empty

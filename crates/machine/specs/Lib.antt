@@ -1,3 +1,2 @@
 -- The numbers of a machine: the only place where they stand.
 pub mod Machine
-pub mod Guards

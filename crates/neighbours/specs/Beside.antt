@@ -9,11 +9,13 @@ use Rattle.class.specs.Class.{list_of}
 use Rattle.word.specs.Word.{word_at}
 use Rattle.bits.specs.Map.{lists}
 use Rattle.script.specs.Memory.{Memory, Size, Before, none}
-use Rattle.script.specs.Script.{Script, Result, run, ok, no, done, ◌>>=◌, ◌>>◌, must_eq, must_le, goes, halts, reads, gives_done, gives_eq, gives_le, halts_eq, halts_le, runs_stop}
+use Rattle.script.specs.Script.{Script, Result, run, ok, no, done, ◌>>=◌, ◌>>◌, must_eq, must_le}
+use Rattle.script.proofs.Script.{goes, halts, reads, gives_done, gives_eq, gives_le, halts_eq, halts_le, runs_stop}
 use Rattle.sound.specs.Checks.{Word, is_free, is_used, is_last, is_bad, word_of, Entry, Beside, nobody, somebody, as_busy, must_busy, must_lead, must_list, see_entry, free_behind, as_behind, see_behind, as_before, see_before}
 use Rattle.slices.specs.Decode.{grains, Inside}
-use Rattle.slices.specs.Arena.{size_at, link_at, size_inside}
-use Rattle.slices.specs.Slices.{memory_size}
+use Rattle.slices.specs.Arena.{size_at, link_at}
+use Rattle.slices.proofs.Arena.{size_inside}
+use Rattle.slices.proofs.Slices.{memory_size}
 use Rattle.header.specs.Turned.{turned}
 use Rattle.header.specs.Told.{free_of, busy_of}
 use Rattle.free_list.specs.Lent.{lent, held, classes, no_link, link, link_none, link_some, link_grain}

@@ -6,11 +6,13 @@ use Rattle.choice.specs.Choice.{eq_yes, eq_no, le_yes, le_no}
 use Rattle.word.specs.Word.{word_at}
 use Rattle.bits.specs.TableBit.{table_bit}
 use Rattle.script.specs.Memory.{Memory, Size, Before, Prev, Live}
-use Rattle.script.specs.Script.{Script, done, ◌>>=◌, ◌>>◌, ok, no, run, unless_eq, must_eq, must_le, goes, halts, reads, gives_done, gives_eq, gives_le, halts_eq, halts_le, runs_stop}
+use Rattle.script.specs.Script.{Script, done, ◌>>=◌, ◌>>◌, ok, no, run, unless_eq, must_eq, must_le}
+use Rattle.script.proofs.Script.{goes, halts, reads, gives_done, gives_eq, gives_le, halts_eq, halts_le, runs_stop}
 use Rattle.sound.specs.Checks.{Word, is_free, is_used, is_last, is_bad, word_of, Owner, must_lead, must_used, as_used, block_of, see_owner}
 use Rattle.slices.specs.Decode.{grains, wrong_link, Inside}
-use Rattle.slices.specs.Arena.{size_at, link_at, size_inside, link_in}
-use Rattle.slices.specs.Slices.{memory_size, memory_prev, memory_live}
+use Rattle.slices.specs.Arena.{size_at, link_at}
+use Rattle.slices.proofs.Arena.{size_inside, link_in}
+use Rattle.slices.proofs.Slices.{memory_size, memory_prev, memory_live}
 use Rattle.header.specs.Turned.{turned}
 use Rattle.header.specs.Told.{used_of}
 use Rattle.free_list.specs.Lent.{lent, held, link, link_grain}

@@ -8,8 +8,9 @@ use Rattle.script.specs.Memory.{Before}
 use Rattle.script.specs.Script.{Script, Result, ok, no, run}
 use Rattle.sound.specs.Checks.{Entry, Owner, Beside, nobody, somebody, block_of, see_owner, see_behind, see_before}
 use Rattle.slices.specs.Decode.{grains, wrong_link}
-use Rattle.slices.specs.Arena.{link_at, link_in}
-use Rattle.slices.specs.Slices.{memory_before}
+use Rattle.slices.specs.Arena.{link_at}
+use Rattle.slices.proofs.Arena.{link_in}
+use Rattle.slices.proofs.Slices.{memory_before}
 use Rattle.header.specs.Turned.{turned}
 use Rattle.free_list.specs.Lent.{lent, held, classes, no_link, link, Holds, link_grain, link_past}
 use Rattle.free_list.specs.Answers.{answer, unless}

@@ -5,7 +5,7 @@ use Rattle.std.proofs.Common.{arith, ap, sym, ◌∙◌, subst}
 use Rattle.choice.specs.Choice.{eq_case, le_case}
 use Rattle.word.specs.Word.{word_at}
 use Rattle.sound.specs.Checks.{Word, is_free, is_used, is_last, is_bad, word_of}
-use Rattle.sound.specs.Seen.{word_free, word_used, word_last}
+use Rattle.sound.proofs.Seen.{word_free, word_used, word_last}
 use Rattle.slices.specs.Decode.{grains, size_of, wrong_size}
 use Rattle.slices.specs.Arena.{size_at}
 use Rattle.header.specs.Turned.{turned, turned_is, grains_few}

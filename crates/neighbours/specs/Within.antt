@@ -8,10 +8,11 @@ use Rattle.class.specs.Class.{list_of}
 use Rattle.script.specs.Memory.{Size, Before}
 use Rattle.script.specs.Script.{run}
 use Rattle.sound.specs.Checks.{Word, is_free, is_used, word_of, Entry, somebody, see_behind, see_before, see_owner}
-use Rattle.sound.specs.Checked.{EntryChecked, behind_checked, before_checked, owner_checked}
+use Rattle.sound.specs.Checked.{EntryChecked}
+use Rattle.sound.proofs.Checked.{behind_checked, before_checked, owner_checked}
 use Rattle.slices.specs.Decode.{grains, Inside}
-use Rattle.slices.specs.Arena.{size_inside}
-use Rattle.slices.specs.Slices.{memory_size}
+use Rattle.slices.proofs.Arena.{size_inside}
+use Rattle.slices.proofs.Slices.{memory_size}
 use Rattle.free_list.specs.Lent.{lent, held, classes, no_link, link, Leads}
 use Rattle.free_list.specs.Answers.{answer, unless}
 use Rattle.free_list.specs.Leading.{leads_valid}

@@ -1,17 +1,15 @@
 -- How many words each call writes at the most, on any memory, damaged or not; reallocate beside what it moves.
-use Rattle.std.specs.Prelude.{ℕ, ◌+◌, ◌-◌, ◌*◌, ◌≤◌, ◌≡◌, List, [], ◌∷◌, length}
+use Rattle.std.specs.Prelude.{ℕ, ◌+◌, ◌*◌, ◌≤◌, ◌≡◌, List, [], ◌∷◌, length}
 use Rattle.std.proofs.Common.{arith, length-append}
 use Rattle.definition.specs.Calls.{place, keeps}
 use Rattle.script.specs.Memory.{Write}
-use Rattle.script.specs.Script.{over, Ends, ends_bind, ends_any, ends_over}
-use Rattle.tags.specs.Within.{allocate_length, deallocate_length}
+use Rattle.script.specs.Script.{over, Ends}
+use Rattle.script.proofs.Script.{ends_bind, ends_any, ends_over}
+use Rattle.tags.proofs.Within.{allocate_length}
 use Rattle.chains.specs.Steps.{Step, leave, enter, step_script, steps_script}
 use Rattle.plans.specs.Deeds.{Deed, Plan, guard_writes, plan_script, writes}
-use Rattle.plans.specs.Checks.{see_guard, see_owner, see_after, see_before, see_join}
 use Rattle.plans.specs.Allocate.{allocate_deed, see_taken, allocate_script}
-use Rattle.plans.specs.Deallocate.{deallocate_deed, deallocate_script}
-use Rattle.plans.specs.Reallocate.{resize_script, reallocate_script}
-use Rattle.plans.specs.Costs.{cost, costs, deed_costs, allocate_costs, deallocate_costs, Small, resize_small}
+use Rattle.plans.specs.Costs.{cost, costs, deed_costs, allocate_costs}
 
 -- ---- a block that leaves a list takes four writes, one that enters five, a guard two
 
@@ -31,7 +29,7 @@ guard_length : (l : List ℕ) → length (guard_writes l) ≡ 2 * length l
 guard_length [] = omega arith
 guard_length (x ∷ l) = omega (arith, guard_length l)
 
-plan_length : (t : Deed) (n : ℕ) → deed_costs 4 5 t + (2 * length t.guards + length t.records) ≤ n → Ends (λ (p : Plan). length (writes p) ≤ n) (plan_script t)
+pub plan_length : (t : Deed) (n : ℕ) → deed_costs 4 5 t + (2 * length t.guards + length t.records) ≤ n → Ends (λ (p : Plan). length (writes p) ≤ n) (plan_script t)
 unfolding plan_script
 plan_length t n h =
     ends_bind (λ (w : List Write). length w ≤ costs 4 5 t.early) _ (steps_script t.early) _ (steps_length t.early) λ w i.
@@ -47,25 +45,3 @@ allocate_writes n c p a =
     ends_any _ (see_taken n c p a) _ λ t.
     let d = place a t.block in
     plan_length (allocate_deed p a t) 16 (omega (arith, allocate_costs 4 5 p a t, allocate_length t.block t.grains (keeps d p) d))
-
--- 19 words
-pub deallocate_writes : (n c q : ℕ) → Ends (λ (t : Plan). length (writes t) ≤ 19) (deallocate_script n c q)
-unfolding deallocate_script
-deallocate_writes n c q =
-    ends_any _ (see_owner n q) _ λ o.
-    ends_any _ (see_guard o.at) _ λ _.
-    ends_any _ (see_after n c (o.at + o.grains)) _ λ b.
-    ends_any _ (see_before n c o.at) _ λ a.
-    ends_any _ (see_join n c (a + (o.grains + b))) _ λ _.
-    let d = q - 2 * o.at in
-    plan_length (deallocate_deed o.at o.grains d a b) 19 (omega (arith, deallocate_costs 4 5 o.at o.grains d a b, deallocate_length o.at o.grains d a b))
-
--- 35 words, beside what it moves
-pub reallocate_writes : (n c q p a : ℕ) → Ends (λ (t : Plan). length (writes t) ≤ 35) (reallocate_script n c q p a)
-unfolding reallocate_script
-reallocate_writes n c q p a =
-    ends_any _ (see_owner n q) _ λ o.
-    ends_any _ (see_guard o.at) _ λ _.
-    let d = q - 2 * o.at in
-    ends_bind Small _ (resize_script n c q p a o.at o.grains d) _ (resize_small n c q p a o.at o.grains d) λ t h.
-    plan_length t 35 (omega (arith, h.steps 4 5, h.guards, h.records))

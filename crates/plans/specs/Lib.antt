@@ -16,4 +16,3 @@ pub mod Storable
 pub mod StorableParts
 pub mod StorableCalls
 pub mod StorableResize
-pub mod StorableRegion

@@ -1,33 +1,18 @@
 -- What a script plans for a deed is what the deed writes; and what the search for a block to hand out has checked.
-use Rattle.std.specs.Prelude.{ℕ, suc, ◌+◌, ◌-◌, ◌*◌, ◌≤◌, ◌<◌, ◌≡◌, refl, List, ◌++◌, length}
-use Rattle.std.proofs.Common.{arith, sym, ◌∙◌, subst}
+use Rattle.std.specs.Prelude.{ℕ, suc, ◌-◌, ◌*◌, ◌<◌, ◌≡◌, refl}
+use Rattle.std.proofs.Common.{arith, subst}
 use Rattle.bits.specs.First.{first_set}
 use Rattle.class.specs.Class.{list_of, start_of}
 use Rattle.definition.specs.Calls.{wanted, place, keeps}
-use Rattle.script.specs.Memory.{Memory, Next, Prev, Mark, apply}
-use Rattle.script.specs.Script.{Script, done, ok, run, unless_le, must_eq, over, over_run, Gives, gives_bind, gives_done, inv_bind, inv_get, inv_done, inv_eq, inv_le}
-use Rattle.sound.specs.Inverted.{inv_first}
+use Rattle.script.specs.Memory.{Memory, Next, Prev, Mark}
+use Rattle.script.specs.Script.{unless_le, must_eq, Gives}
+use Rattle.script.proofs.Script.{inv_bind, inv_get, inv_done, inv_eq, inv_le}
+use Rattle.sound.proofs.Inverted.{inv_first}
 use Rattle.chains.specs.Links.{Head}
-use Rattle.chains.specs.Steps.{steps_script, steps_few, steps_give}
 use Rattle.chains.specs.Closed.{Headed}
-use Rattle.plans.specs.Deeds.{Deed, Plan, early_writes, plan_of, plan_script}
 use Rattle.plans.specs.Checks.{must_free, must_be, see_free, see_rest}
 use Rattle.plans.specs.Checked.{FreeTag, WholeFree, free_checked, whole_checked, rest_checked}
 use Rattle.plans.specs.Allocate.{Taken, see_first, see_taken}
-
-pub plan_gives : (m : Memory) (t : Deed) → Gives m (plan_script t) (plan_of m t)
-unfolding plan_script
-plan_gives m t =
-    let w = early_writes m t in
-    gives_bind m (steps_script t.early) _ (steps_give m t.early)
-    (gives_bind m (over w (steps_script t.late)) _ (over_run m w (steps_script t.late) (4 * length t.late) (steps_few t.late) ∙ steps_give (apply m w) t.late) (gives_done m _))
-
--- a script gives one answer
-pub gives_one : {A : Type 0} (m : Memory) (s : Script A) {a b : A} → Gives m s a → Gives m s b → a ≡ b
-gives_one m s {a} {b} g h = let e : ok a ≡ ok b = sym g ∙ h in cc
-
-pub plan_checked : (m : Memory) (t : Deed) {p : Plan} → Gives m (plan_script t) p → plan_of m t ≡ p
-plan_checked m t g = gives_one m (plan_script t) (plan_gives m t) g
 
 -- ---- the block that is handed out
 

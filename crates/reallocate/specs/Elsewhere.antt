@@ -1,20 +1,24 @@
 -- The last step of a resize: another block is taken, and the old one is left.
 use Rattle.std.specs.Prelude.{ℕ, ◌+◌, ◌*◌, ◌%◌, ◌^◌, ◌≤◌, ◌<◌, ◌≡◌, refl, List, [], ◌++◌, length}
 use Rattle.std.proofs.Common.{arith, ap, sym, ◌∙◌, subst, inl, inr, ⊎_elim}
-use Rattle.align.specs.Align.{Power, power_pos}
+use Rattle.align.specs.Align.{Power}
+use Rattle.align.proofs.Align.{power_pos}
 use Rattle.invariants.specs.Placing.{Align}
 use Rattle.script.specs.Memory.{Memory, Write}
-use Rattle.script.specs.Script.{ok, no, run, ◌>>=◌, done, over, over_run, goes, halts, gives_done}
+use Rattle.script.specs.Script.{ok, no, run, ◌>>=◌, done, over}
+use Rattle.script.proofs.Script.{over_run, goes, halts, gives_done}
 use Rattle.sound.specs.Plans.{Plan, take_script, give_back_script, elsewhere_script}
-use Rattle.sound.specs.Constant.{back_reads}
+use Rattle.sound.proofs.Constant.{back_reads}
 use Rattle.sound.specs.Runs.{yes, not}
-use Rattle.sound.specs.WritableCalls.{take_writable, take_answer}
-use Rattle.slices.specs.Decode.{grains, grains_keep, wide_8}
+use Rattle.sound.proofs.WritableCalls.{take_writable, take_answer}
+use Rattle.slices.specs.Decode.{grains}
+use Rattle.slices.proofs.Decode.{grains_keep, wide_8}
 use Rattle.slices.specs.Slices.{Slices, memory_of, stores, AllValid}
-use Rattle.slices.specs.Kept.{stores_lengths}
-use Rattle.slices.specs.Stored.{stores_memory}
-use Rattle.slices.specs.Ample.{decoded_slices, all_valid}
-use Rattle.carry.specs.Carry.{shifted, carried_parts}
+use Rattle.slices.proofs.Kept.{stores_lengths}
+use Rattle.slices.proofs.Stored.{stores_memory}
+use Rattle.slices.proofs.Ample.{decoded_slices, all_valid}
+use Rattle.carry.specs.Carry.{shifted}
+use Rattle.carry.proofs.Carry.{carried_parts}
 use Rattle.tables.specs.Length.{LongEnough, long_ample}
 use Rattle.request.specs.Alignment.{power_beside}
 use Rattle.free_list.specs.Lent.{lent, held, classes, Long}

@@ -6,7 +6,8 @@ use Rattle.copy.specs.Moved.{moved}
 use Rattle.script.specs.Memory.{Write}
 use Rattle.script.specs.Script.{ok, no, run}
 use Rattle.sound.specs.Plans.{Plan, give_back_script}
-use Rattle.slices.specs.Decode.{grains, grains_le}
+use Rattle.slices.specs.Decode.{grains}
+use Rattle.slices.proofs.Decode.{grains_le}
 use Rattle.slices.specs.Slices.{stores}
 use Rattle.carry.specs.Carry.{shifted}
 use Rattle.free_list.specs.Lent.{lent, held, classes}

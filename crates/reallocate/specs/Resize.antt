@@ -3,15 +3,16 @@ use Rattle.std.specs.Prelude.{ℕ, ◌+◌, ◌-◌, ◌*◌, ◌^◌, ◌≤◌
 use Rattle.std.proofs.Common.{arith, sym, ◌∙◌, subst}
 use Rattle.definition.specs.Calls.{keeps}
 use Rattle.script.specs.Memory.{Memory}
-use Rattle.script.specs.Script.{Script, Result, run, goes, halts}
+use Rattle.script.specs.Script.{Script, Result, run}
+use Rattle.script.proofs.Script.{goes, halts}
 use Rattle.sound.specs.Checks.{Owner, see_owner}
-use Rattle.sound.specs.Checked.{owner_checked}
-use Rattle.sound.specs.WritableResize.{after_start}
+use Rattle.sound.proofs.Checked.{owner_checked}
+use Rattle.sound.proofs.WritableResize.{after_start}
 use Rattle.sound.specs.Plans.{Plan, grow_script, resize_script}
 use Rattle.sound.specs.Runs.{Reply, yes}
 use Rattle.slices.specs.Decode.{grains}
 use Rattle.header.specs.Turned.{grains_few}
-use Rattle.carry.specs.Carry.{carried_still}
+use Rattle.carry.proofs.Carry.{carried_still}
 use Rattle.tables.specs.Length.{LongEnough}
 use Rattle.free_list.specs.Lent.{lent, held, classes}
 use Rattle.free_list.specs.Answers.{unless_no, unless_ok}

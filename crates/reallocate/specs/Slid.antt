@@ -2,13 +2,14 @@
 use Rattle.std.specs.Prelude.{ℕ, ◌+◌, ◌-◌, ◌*◌, ◌≤◌, ◌<◌, ◌≡◌, refl, List, length}
 use Rattle.std.proofs.Common.{arith, ap, sym, ◌∙◌, subst}
 use Rattle.copy.specs.Moved.{moved}
-use Rattle.invariants.specs.Placing.{keeps_holds}
+use Rattle.invariants.proofs.Placing.{keeps_holds}
 use Rattle.script.specs.Script.{run}
 use Rattle.sound.specs.Plans.{move_script}
 use Rattle.sound.specs.Runs.{Reply, yes}
 use Rattle.slices.specs.Decode.{grains}
 use Rattle.slices.specs.Slices.{Slices, stores}
-use Rattle.carry.specs.Carry.{shifted, carried, carried_parts}
+use Rattle.carry.specs.Carry.{shifted, carried}
+use Rattle.carry.proofs.Carry.{carried_parts}
 use Rattle.tables.specs.Length.{LongEnough}
 use Rattle.free_list.specs.Lent.{lent, held, classes, Long}
 use Rattle.free_list.specs.Written.{Written, WrittenLive, written_length, written_room}

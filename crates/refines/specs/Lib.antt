@@ -2,17 +2,12 @@
 pub mod Sounds
 pub mod Seen
 pub mod SeenOwner
-pub mod Broken
-pub mod SeenBeside
 pub mod SeenTaken
-pub mod Listed
 pub mod AllocateMeets
 pub mod DeallocateMeets
 pub mod Commute
 pub mod ElsewhereMeets
 pub mod ReallocateMeets
 pub mod ReallocateWhole
-pub mod RegionMeets
 pub mod Calls
-pub mod Tables
 pub mod Runs

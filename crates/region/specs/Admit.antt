@@ -6,7 +6,8 @@ use Rattle.std.proofs.Common.{arith, ap, sym, ◌∙◌}
 use Rattle.choice.specs.Choice.{if_eq, eq_yes, eq_no}
 use Rattle.table.specs.Table.{entry}
 use Rattle.script.specs.Memory.{Memory, Table}
-use Rattle.script.specs.Script.{Script, no, run, done, stop, ◌>>=◌, ◌>>◌, unless_le, must_eq, must_le, Gives, goes, halts, reads, gives_done, gives_eq, gives_le, halts_eq, halts_le, runs_stop}
+use Rattle.script.specs.Script.{Script, no, run, done, stop, ◌>>=◌, ◌>>◌, unless_le, must_eq, must_le, Gives}
+use Rattle.script.proofs.Script.{goes, halts, reads, gives_done, gives_eq, gives_le, halts_eq, halts_le, runs_stop}
 use Rattle.sound.specs.Plans.{Plan}
 use Rattle.sound.specs.RegionPlan.{Looked, see_regions, Layout, lay_script, planned, region_script}
 use Rattle.sound.specs.RegionSound.{nothing_seen}

@@ -7,8 +7,10 @@ use Rattle.std.proofs.Math.Path.{ap}
 use Rattle.choice.specs.Choice.{le_yes, le_no}
 use Rattle.class.specs.Class.{list_of}
 use Rattle.script.specs.Memory.{Memory, Write, apply}
-use Rattle.script.specs.Script.{no, run, Gives, goes, halts, gives_done, over, over_run}
-use Rattle.sound.specs.Checks.{see_head, few_head}
+use Rattle.script.specs.Script.{no, run, Gives, over}
+use Rattle.script.proofs.Script.{goes, halts, gives_done, over_run}
+use Rattle.sound.specs.Checks.{see_head}
+use Rattle.sound.proofs.Checks.{few_head}
 use Rattle.sound.specs.RegionPlan.{piece_writes, lay_script}
 
 module _ (m : Memory) (n c : ℕ) where

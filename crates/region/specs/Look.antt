@@ -7,7 +7,8 @@ use Rattle.std.proofs.Common.{◌∙◌, ⊎_elim}
 use Rattle.choice.specs.Choice.{if_eq, if_le, le_yes, le_no, le?}
 use Rattle.table.specs.Table.{entry}
 use Rattle.script.specs.Memory.{Memory, Table}
-use Rattle.script.specs.Script.{Result, ok, no, run, done, unless_le, Gives, goes, halts, reads, gives_done, gives_le, halts_le}
+use Rattle.script.specs.Script.{Result, ok, no, run, done, unless_le, Gives}
+use Rattle.script.proofs.Script.{goes, halts, reads, gives_done, gives_le, halts_le}
 use Rattle.sound.specs.RegionPlan.{Looked, wrong_of, see_regions}
 use Rattle.sound.specs.RegionSound.{nothing_seen}
 use Rattle.region.specs.declared.Findings.{Findings}

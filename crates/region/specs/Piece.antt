@@ -4,14 +4,16 @@ use Rattle.std.specs.Prelude.{ℕ, ◌+◌, ◌-◌, ◌*◌, ◌^◌, ◌≤◌
 use Rattle.std.proofs.Common.{arith, sym, ◌∙◌}
 use Rattle.std.proofs.Math.Path.{ap}
 use mathlib.Core.List.{List, [], ◌∷◌}
-use Rattle.class.specs.Class.{list_of, list_small}
+use Rattle.class.specs.Class.{list_of}
+use Rattle.class.proofs.Class.{list_small}
 use Rattle.word.specs.Word.{put_at, put_at_length}
 use Rattle.bits.specs.Map.{map_words}
 use Rattle.bits.specs.Map.{lists as list_count}
 use Rattle.script.specs.Memory.{Size, Before, none, free_word, last_word, ◌at◌≔◌}
 use Rattle.sound.specs.Links.{push_writes}
 use Rattle.sound.specs.RegionPlan.{piece_writes}
-use Rattle.slices.specs.Decode.{size_word, link_word, top_of, grains, grains_keep, free_stored, last_stored}
+use Rattle.slices.specs.Decode.{size_word, link_word, top_of, grains}
+use Rattle.slices.proofs.Decode.{grains_keep, free_stored, last_stored}
 use Rattle.slices.specs.Arena.{put_size, put_link}
 use Rattle.free_list.specs.Lent.{Room, Leads, link, no_link, link_keep, leads_keep, none_stored, grain_stored}
 use Rattle.free_list.specs.Lent.{lent}

@@ -8,7 +8,8 @@ use Rattle.bits.specs.Map.{map_words}
 use Rattle.bits.specs.Map.{lists as list_count}
 use Rattle.script.specs.Memory.{Write}
 use Rattle.sound.specs.RegionPlan.{piece_writes}
-use Rattle.slices.specs.Decode.{grains, grains_keep}
+use Rattle.slices.specs.Decode.{grains}
+use Rattle.slices.proofs.Decode.{grains_keep}
 use Rattle.header.specs.Turned.{grains_few, turned_is}
 use Rattle.header.specs.Told.{link_leads}
 use Rattle.free_list.specs.Lent.{Leads, link}

@@ -4,9 +4,10 @@ use Rattle.std.specs.Prelude.{ℕ, ◌≤◌, ◌<◌, ◌≡◌, refl, List}
 use Rattle.std.proofs.Common.{arith, ap, ◌∙◌}
 use Rattle.choice.specs.Choice.{if_eq, eq_no, eq_case, upd, upd_same}
 use Rattle.script.specs.Memory.{Memory, Next, Prev, Mark, none, root, Write, apply}
-use Rattle.script.specs.Script.{run, ◌>>◌, must_eq, Gives, gives_get, gives_bind, gives_done, gives_eq}
+use Rattle.script.specs.Script.{run, ◌>>◌, must_eq, Gives}
+use Rattle.script.proofs.Script.{gives_get, gives_bind, gives_done, gives_eq}
 use Rattle.sound.specs.Checks.{must_grain, must_lead, see_head}
-use Rattle.sound.specs.Seen.{gives_grain, gives_lead}
+use Rattle.sound.proofs.Seen.{gives_grain, gives_lead}
 use Rattle.sound.specs.Links.{push_writes}
 
 -- y is the head of list k, and all that is beside it agrees

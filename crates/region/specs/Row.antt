@@ -6,10 +6,11 @@ use Rattle.std.specs.Prelude.{◌≡◌, [], ◌++◌}
 use Rattle.std.proofs.Common.{sym, ◌∙◌, ⊎_elim}
 use Rattle.std.proofs.Math.Path.{subst}
 use Rattle.class.specs.Class.{list_of}
-use Rattle.script.specs.Memory.{Memory, Mark, Prev, none, apply, apply_append}
+use Rattle.script.specs.Memory.{Memory, Mark, Prev, none, apply}
+use Rattle.script.proofs.Memory.{apply_append}
 use Rattle.script.specs.Script.{run, Gives}
 use Rattle.sound.specs.Checks.{see_head}
-use Rattle.sound.specs.Checked.{head_checked}
+use Rattle.sound.proofs.Checked.{head_checked}
 use Rattle.sound.specs.RegionPlan.{piece_writes, lay_script}
 use Rattle.region.specs.Layout.{lay_more}
 use Rattle.region.specs.Pushed.{head_pushed}

@@ -8,7 +8,8 @@ use Rattle.std.proofs.lemmas.Nat.{and_mask}
 use Rattle.std.proofs.Math.Pow.{pow-lt}
 use Rattle.choice.specs.Choice.{le?}
 use Rattle.choice.specs.Says.{Says}
-use Rattle.align.specs.Align.{Power, power_pos}
+use Rattle.align.specs.Align.{Power}
+use Rattle.align.proofs.Align.{power_pos}
 use Rattle.definition.specs.Units.{multiple as multiple_of}
 use Rattle.invariants.specs.Placing.{Align}
 

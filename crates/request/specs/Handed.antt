@@ -8,7 +8,8 @@ use Rattle.choice.specs.Choice.{le?}
 use Rattle.align.specs.Align.{Power}
 use Rattle.definition.specs.Calls.{place}
 use Rattle.definition.specs.Units.{multiple as multiple_of}
-use Rattle.invariants.specs.Placing.{align_pos, place_aligned, place_some, place_most}
+use Rattle.invariants.specs.Placing.{place_most}
+use Rattle.invariants.proofs.Placing.{align_pos, place_aligned, place_some}
 use Rattle.request.specs.declared.Payload.{Payload}
 use Rattle.request.specs.declared.Payload.TheVariants.{At, Unsuited, NoKind}
 use Rattle.request.specs.Alignment.{Alignment, pow_split, divides_times, multiple_align, multiple_bytes}

@@ -4,7 +4,8 @@ use Rattle.std.specs.Prelude.{ℕ, ◌+◌, ◌-◌, ◌*◌, ◌/◌, ◌%◌, 
 use Rattle.std.proofs.Math.Nat.{add-div_right}
 use Rattle.std.proofs.Common.{add-mul, one-mul, div-add-mod', mod-lt, arith, ap, ◌∙◌}
 use Rattle.std.specs.Int.Bits.{bit_and}
-use Rattle.align.specs.Align.{Power, power_pos}
+use Rattle.align.specs.Align.{Power}
+use Rattle.align.proofs.Align.{power_pos}
 use Rattle.definition.specs.Calls.{place}
 use Rattle.request.specs.Alignment.{rest_masked}
 

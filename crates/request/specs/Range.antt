@@ -4,7 +4,8 @@ use Rattle.std.specs.Prelude.{ℕ, ◌+◌, ◌^◌, ◌<◌}
 use Rattle.std.proofs.Common.{arith, subst, sym}
 use Rattle.align.specs.Align.{Power}
 use Rattle.definition.specs.Calls.{place}
-use Rattle.invariants.specs.Placing.{Align, align_pos, place_most}
+use Rattle.invariants.specs.Placing.{Align, place_most}
+use Rattle.invariants.proofs.Placing.{align_pos}
 use Rattle.request.specs.declared.Request.{Request}
 use Rattle.request.specs.Alignment.{multiple_align, multiple_power, multiple_most}
 use Rattle.request.specs.Asked.{Numbers, wanted_bytes}

@@ -5,7 +5,8 @@ use Rattle.std.proofs.Math.Path.{ap}
 use Rattle.choice.specs.Choice.{eq_yes, eq_no, le_yes, le_no}
 use Rattle.definition.specs.Calls.{place, keeps}
 use Rattle.script.specs.Memory.{Memory}
-use Rattle.script.specs.Script.{Script, ok, no, run, goes, halts, gives_done, ◌>>=◌, ◌>>◌}
+use Rattle.script.specs.Script.{Script, ok, no, run, ◌>>=◌, ◌>>◌}
+use Rattle.script.proofs.Script.{goes, halts, gives_done}
 use Rattle.machine.specs.Machine.{classes}
 use Rattle.plans.specs.Deeds.{Deed}
 use Rattle.plans.specs.Checks.{see_owner, see_guard, see_after, see_before, see_rest, see_join}

@@ -5,6 +5,4 @@ pub mod Heads
 pub mod Slices
 pub mod Fields
 pub mod Kept
-pub mod Stored
-pub mod Widths
 pub mod Ample

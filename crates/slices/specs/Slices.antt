@@ -1,9 +1,7 @@
 -- The slices that a heap is lent, read as a memory (`memory_of`), what is stored in them for a write (`store`), and which
 -- writes can be stored (`Valid`). The arena has words of w bytes.
 use Rattle.std.specs.Prelude.{ℕ, suc, ◌+◌, ◌-◌, ◌*◌, ◌^◌, ◌≤◌, ◌<◌, ◌≡◌, List, [], ◌∷◌, ◌⊎◌, length}
-use Rattle.std.proofs.Common.{arith}
-use Rattle.std.proofs.Math.Path.{refl}
-use Rattle.choice.specs.Choice.{if_eq, if_le, le_yes, le_no}
+use Rattle.choice.specs.Choice.{if_eq, if_le}
 use Rattle.table.specs.Table.{entry, enter}
 use Rattle.bits.specs.TableBit.{table_bit, set_table_bit, clear_table_bit}
 use Rattle.bits.specs.Map.{map_words, map_bit, mark_bit, unmark_bit}
@@ -33,37 +31,6 @@ memory_of w S f =
     (pick f Live (table_bit S.live)
     (pick f Table (entry S.regions)
     (λ _. 0)))))))
-
-module _ (w : ℕ) (S : Slices) (y : ℕ) where
-  -- the words of a grain
-  pub memory_size : memory_of w S Size y ≡ size_at w S.arena y
-  unfolding memory_of
-  memory_size = refl
-
-  pub memory_before : memory_of w S Before y ≡ link_at w S.arena Before wrong_link y
-  unfolding memory_of
-  memory_before = refl
-
-  pub memory_next : memory_of w S Next y ≡ next_at w S.arena S.lists y
-  unfolding memory_of
-  memory_next = refl
-
-  pub memory_prev : memory_of w S Prev y ≡ link_at w S.arena Prev wrong_link y
-  unfolding memory_of
-  memory_prev = refl
-
-  -- the bits and entries of the tables
-  pub memory_mark : memory_of w S Mark y ≡ map_bit S.lists y
-  unfolding memory_of
-  memory_mark = refl
-
-  pub memory_live : memory_of w S Live y ≡ table_bit S.live y
-  unfolding memory_of
-  memory_live = refl
-
-  pub memory_table : memory_of w S Table y ≡ entry S.regions y
-  unfolding memory_of
-  memory_table = refl
 
 -- ---- stored
 
@@ -109,19 +76,6 @@ store w S x = store_at w S x.field x.place x.value
 abbrev pub stores : ℕ → Slices → List Write → Slices
 stores w S [] = S
 stores w S (x ∷ l) = stores w (store w S x) l
-
--- ---- the two kinds of next
-
--- of a root
-pub store_root : (w : ℕ) (S : Slices) (k v : ℕ) → with_next w S (root k) v ≡ with_lists S (put_head (4 * w) S.lists k v)
-store_root w S k v =
-    let h : suc none ≤ root k = omega arith in
-    let e : root k - suc none ≡ k = omega arith in
-    simp (le_yes, e)
-
--- of a grain
-pub store_next : (w : ℕ) (S : Slices) (g v : ℕ) → g ≤ none → with_next w S g v ≡ with_arena S (put_link w S.arena Next g v)
-store_next w S g v h = let n : suc none ≤ g → ⊥ = omega arith in simp le_no
 
 -- ---- what can be stored
 

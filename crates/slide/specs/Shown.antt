@@ -7,7 +7,8 @@ use Rattle.definition.specs.Calls.{place, keeps}
 use Rattle.script.specs.Memory.{Memory, Live, Write, ◌at◌≔◌}
 use Rattle.script.specs.Script.{Result, ok, no, run}
 use Rattle.sound.specs.Plans.{Plan, pad_writes, leave_script, elsewhere_script, down_script, move_script}
-use Rattle.slices.specs.Decode.{grains, grains_keep}
+use Rattle.slices.specs.Decode.{grains}
+use Rattle.slices.proofs.Decode.{grains_keep}
 use Rattle.free_list.specs.Lent.{held, classes, link, Leads, link_keep, leads_keep}
 use Rattle.free_list.specs.Answers.{answer}
 use Rattle.neighbours.specs.declared.Neighbour.{Neighbour}

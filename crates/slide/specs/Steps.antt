@@ -6,9 +6,10 @@ use Rattle.choice.specs.Choice.{if_eq, eq_yes, eq_no, le_yes, le_no}
 use Rattle.bits.specs.Map.{lists}
 use Rattle.class.specs.Class.{list_of}
 use Rattle.definition.specs.Calls.{place, keeps}
-use Rattle.invariants.specs.Placing.{keeps_holds}
+use Rattle.invariants.proofs.Placing.{keeps_holds}
 use Rattle.script.specs.Memory.{Write}
-use Rattle.script.specs.Script.{ok, no, run, done, ◌>>=◌, goes, halts, gives_done}
+use Rattle.script.specs.Script.{ok, no, run, done, ◌>>=◌}
+use Rattle.script.proofs.Script.{goes, halts, gives_done}
 use Rattle.sound.specs.Checks.{see_before}
 use Rattle.sound.specs.Plans.{Plan, room_of, both_leave, leave_script, elsewhere_script, down_script, move_script}
 use Rattle.slices.specs.Decode.{grains}

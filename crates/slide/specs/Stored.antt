@@ -3,7 +3,8 @@
 use Rattle.std.specs.Prelude.{ℕ, ◌+◌, ◌*◌, ◌<◌, ◌≡◌, refl, List, [], ◌∷◌, length}
 use Rattle.std.proofs.Common.{arith, ap, sym, ◌∙◌, subst, append_assoc}
 use Rattle.choice.specs.Choice.{eq_yes, eq_no}
-use Rattle.bits.specs.TableBit.{clear_table_bit, set_table_bit, clear_table_length}
+use Rattle.bits.specs.TableBit.{clear_table_bit, set_table_bit}
+use Rattle.bits.proofs.TableBit.{clear_table_length}
 use Rattle.script.specs.Memory.{Live, Write, ◌at◌≔◌}
 use Rattle.sound.specs.Plans.{pad_writes}
 use Rattle.slices.specs.Slices.{stores}

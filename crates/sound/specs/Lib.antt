@@ -6,15 +6,12 @@ pub mod Links
 pub mod Checks
 pub mod Plans
 pub mod RegionPlan
-pub mod Constant
 -- the relation: the blocks, the lists, all of it; what it is worth
 pub mod Row
 pub mod Chain
 pub mod Strung
 pub mod Sound
 pub mod Meets
-pub mod Determined
-pub mod Fresh
 -- any memory, damaged or not: what an answer tells, with which numbers is refused, and that every write can be stored
 pub mod Inverted
 pub mod Checked
@@ -25,7 +22,6 @@ pub mod RefusedCalls
 pub mod Writable
 pub mod WritableCalls
 pub mod WritableResize
-pub mod WritableRegion
 -- steps of the proofs: the checks go through; rows and lists after the writes; what is left to show
 pub mod Seen
 pub mod SeenBeside
@@ -34,17 +30,11 @@ pub mod Relists
 pub mod Leave
 pub mod Swaps
 pub mod Finish
-pub mod Settle
-pub mod Skips
 pub mod Founded
 pub mod Laying
 pub mod RegionTable
 -- the calls
-pub mod TakeSound
-pub mod ReturnSound
 pub mod ResizeInPlace
-pub mod ResizeDown
-pub mod ResizeSound
 pub mod RegionSound
 -- all calls at once, and lists of calls
 pub mod Calls
@@ -56,8 +46,5 @@ pub mod PayloadWrites
 pub mod Filled
 pub mod PayloadTake
 pub mod PayloadReturn
-pub mod ResizeSteps
-pub mod PayloadResize
 pub mod PayloadMoved
-pub mod PayloadRegions
 pub mod Payloads

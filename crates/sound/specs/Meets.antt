@@ -1,7 +1,6 @@
 -- What it means that a script does what a call of the definition says: the same answer, or the refusal's number; and the
 -- memory with its writes stands for the heap after the call. A script that meets an answer is never refused with 5.
-use Rattle.std.specs.Prelude.{ℕ, ◌≡◌, refl}
-use Rattle.std.proofs.Common.{arith}
+use Rattle.std.specs.Prelude.{ℕ, ◌≡◌}
 use Rattle.definition.specs.Calls.{Heap, Refusal, no_list, not_live, no_region, Answer, refused, granted}
 use Rattle.script.specs.Memory.{Memory, apply}
 use Rattle.script.specs.Script.{Script, ok, no, run}
@@ -23,10 +22,3 @@ pub record Grants (n c : ℕ) (m : Memory) (s : Script Plan) (v : ℕ) (g : Heap
 abbrev pub Meets : ℕ → ℕ → Memory → Script Plan → Answer → Type 0
 Meets n c m s (refused w) = run m s ≡ no (number w)
 Meets n c m s (granted v g) = Grants n c m s v g
-
--- a script that is refused with 1 has found no list
-pub refused_1 : (n c : ℕ) (m : Memory) (s : Script Plan) (w : Answer) → Meets n c m s w → run m s ≡ no 1 → w ≡ refused no_list
-refused_1 n c m s (refused no_list) k e = refl
-refused_1 n c m s (refused not_live) k e = let z : ◌≡◌ {A = ℕ} 3 1 = cc in absurd (omega arith)
-refused_1 n c m s (refused no_region) k e = let z : ◌≡◌ {A = ℕ} 4 1 = cc in absurd (omega arith)
-refused_1 n c m s (granted v g) k e = let i = k.gives in let z : ◌≡◌ {A = ℕ} 0 1 = cc in absurd (omega arith)

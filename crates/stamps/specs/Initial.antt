@@ -6,7 +6,8 @@ use Rattle.definition.specs.Calls.{empty}
 use Rattle.machine.specs.Machine.{classes}
 use Rattle.armour.specs.Row.{Sound}
 use Rattle.lent.specs.Slices.{Slices, grains, memory_of}
-use Rattle.lent.specs.Empty.{Zeros, zeros_sound}
+use Rattle.lent.specs.Empty.{Zeros}
+use Rattle.lent.proofs.Empty.{zeros_sound}
 
 -- the tables after init, and before it
 pub record Initial (l₀ t₀ r₀ l t r : List ℕ) : Type 0 where

@@ -8,7 +8,8 @@ use Rattle.bits.specs.Map.{lists}
 use Rattle.class.specs.Class.{list_of}
 use Rattle.definition.specs.Calls.{keeps}
 use Rattle.script.specs.Memory.{Write}
-use Rattle.script.specs.Script.{Script, ok, no, run, done, ◌>>=◌, goes, halts, gives_done}
+use Rattle.script.specs.Script.{Script, ok, no, run, done, ◌>>=◌}
+use Rattle.script.proofs.Script.{goes, halts, gives_done}
 use Rattle.sound.specs.Checks.{see_behind}
 use Rattle.sound.specs.Plans.{Plan, room_of, leaves, leave_script, move_script, stretch_script, grow_script}
 use Rattle.slices.specs.Decode.{grains}

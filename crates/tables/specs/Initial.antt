@@ -9,15 +9,19 @@ use Rattle.choice.specs.Choice.{eq_yes, le?}
 use Rattle.table.specs.Table.{entry, enter, entry_enter}
 use Rattle.bits.specs.Bit.{bit}
 use Rattle.bits.specs.TableBit.{table_bit}
-use Rattle.bits.specs.Map.{map_words, map_bit, map_bit_is, map_bit_none}
+use Rattle.bits.specs.Map.{map_words, map_bit}
+use Rattle.bits.proofs.Map.{map_bit_is, map_bit_none}
 use Rattle.bits.specs.Map.{lists as list_count}
 use Rattle.definition.specs.Calls.{empty}
 use Rattle.script.specs.Memory.{root, none}
 use Rattle.sound.specs.Sound.{Sound}
-use Rattle.sound.specs.Fresh.{fresh}
-use Rattle.slices.specs.Decode.{link_of, head_bytes, top_of, grains, grains_none, wide_8}
-use Rattle.slices.specs.Heads.{head_at, head_in, head_out, next_root}
-use Rattle.slices.specs.Slices.{Slices, memory_of, memory_next, memory_mark, memory_live, memory_table}
+use Rattle.sound.proofs.Fresh.{fresh}
+use Rattle.slices.specs.Decode.{link_of, head_bytes, top_of, grains}
+use Rattle.slices.proofs.Decode.{grains_none, wide_8}
+use Rattle.slices.specs.Heads.{head_at}
+use Rattle.slices.proofs.Heads.{head_in, head_out, next_root}
+use Rattle.slices.specs.Slices.{Slices, memory_of}
+use Rattle.slices.proofs.Slices.{memory_next, memory_mark, memory_live, memory_table}
 use Rattle.tables.specs.Fill.{filled, filled_length, filled_in, filled_below}
 
 -- the table of the lists with nothing in the map and no head that leads anywhere

@@ -1,14 +1,9 @@
 -- What the tag table says of the blocks, and what each call writes to it. Read Tag and Decode, then Writes and Stamped.
 pub mod Tag
-pub mod Tagged
 pub mod Says
 pub mod Decode
-pub mod Unique
-pub mod Bound
 pub mod Writes
 pub mod Each
 pub mod Within
 pub mod Stamps
 pub mod Changes
-pub mod Piece
-pub mod Stamped

@@ -4,18 +4,21 @@ use Rattle.std.proofs.Common.{arith}
 use Rattle.std.proofs.Math.Path.{subst}
 use mathlib.Core.List.{List, [], ◌++◌}
 use Rattle.table.specs.Table.{entry}
-use Rattle.script.specs.Script.{ok, run, inv_bind, inv_done}
+use Rattle.script.specs.Script.{ok, run}
+use Rattle.script.proofs.Script.{inv_bind, inv_done}
 use Rattle.machine.specs.Machine.{words, classes, piece}
 use Rattle.chains.specs.Steps.{Step}
-use Rattle.chains.specs.Closed.{Ready, ready_append}
-use Rattle.tags.specs.Within.{deallocate_field}
+use Rattle.chains.specs.Closed.{Ready}
+use Rattle.chains.proofs.Closed.{ready_append}
+use Rattle.tags.proofs.Within.{deallocate_field}
 use Rattle.plans.specs.Checks.{see_owner, see_guard, see_after, see_before, see_join}
-use Rattle.plans.specs.Checked.{owner_checked}
+use Rattle.plans.proofs.Checked.{owner_checked}
 use Rattle.plans.specs.Deallocate.{leave_steps, beside_steps, join_steps}
-use Rattle.plans.specs.StorableParts.{bounds, after_ready, before_ready, beside_ready, join_ready}
-use Rattle.plans.specs.StorableCalls.{owner_inside}
+use Rattle.plans.specs.StorableParts.{bounds, beside_ready, join_ready}
+use Rattle.plans.proofs.StorableParts.{after_ready, before_ready}
+use Rattle.plans.proofs.StorableCalls.{owner_inside}
 use Rattle.lent.specs.Slices.{grains}
-use Rattle.lent.specs.Shown.{grains_below}
+use Rattle.lent.proofs.Shown.{grains_below}
 use Rattle.stamps.specs.Bounds.{CanDeallocate}
 use Rattle.stamps.specs.Stores.{tag_stores}
 use Rattle.entries.specs.Answers.{held, Enough}

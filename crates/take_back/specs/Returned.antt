@@ -3,10 +3,11 @@ use Rattle.std.specs.Prelude.{ℕ, ◌+◌, ◌-◌, ◌*◌, ◌≡◌}
 use Rattle.std.proofs.Math.Path.{sym}
 use Rattle.std.proofs.Common.{◌∙◌}
 use Rattle.script.specs.Memory.{Memory}
-use Rattle.script.specs.Script.{Script, ok, no, done, run, ◌>>=◌, ◌>>◌, goes, halts, alike, bind_assoc}
+use Rattle.script.specs.Script.{Script, ok, no, done, run, ◌>>=◌, ◌>>◌}
+use Rattle.script.proofs.Script.{goes, halts, alike, bind_assoc}
 use Rattle.plans.specs.Deeds.{Deed, Plan, plan_of, plan_script}
 use Rattle.plans.specs.Checks.{see_owner, see_guard, see_after, see_before, see_join}
-use Rattle.plans.specs.Planned.{plan_gives}
+use Rattle.plans.proofs.Planned.{plan_gives}
 use Rattle.plans.specs.Deallocate.{deallocate_deed, deallocate_script}
 
 -- a block of s grains at x, with some free grains before it and after it

@@ -2,7 +2,8 @@
 use Rattle.std.specs.Prelude.{ℕ, ◌+◌, ◌≡◌, true, false}
 use Rattle.std.proofs.Common.{◌∙◌}
 use Rattle.script.specs.Memory.{Memory}
-use Rattle.script.specs.Script.{ok, no, run, goes, halts, gives_done}
+use Rattle.script.specs.Script.{ok, no, run}
+use Rattle.script.proofs.Script.{goes, halts, gives_done}
 use Rattle.machine.specs.Machine.{classes}
 use Rattle.plans.specs.Checks.{see_owner, see_guard, see_after, see_before, see_join}
 use Rattle.lent.specs.Slices.{grains}

@@ -4,14 +4,16 @@ use Rattle.std.proofs.Common.{arith, ◌∙◌, subst, inl, inr}
 use Rattle.choice.specs.Choice.{eq_case, le_case}
 use Rattle.word.specs.Number.{Apart}
 use Rattle.table.specs.Table.{enter_length, entry_other}
-use Rattle.bits.specs.TableBit.{set_table_length, clear_table_length, set_table_entry, clear_table_entry}
-use Rattle.bits.specs.Map.{map_words, mark_length, unmark_length, mark_entry, unmark_entry}
+use Rattle.bits.proofs.TableBit.{set_table_length, clear_table_length, set_table_entry, clear_table_entry}
+use Rattle.bits.specs.Map.{map_words}
+use Rattle.bits.proofs.Map.{mark_length, unmark_length, mark_entry, unmark_entry}
 use Rattle.bits.specs.Map.{lists as list_count}
 use Rattle.script.specs.Memory.{Size, Before, Next, Prev, Mark, Live, none, pick, Write}
-use Rattle.slices.specs.Arena.{put_size, put_link, put_size_length, put_link_length, put_size_byte, put_link_byte}
+use Rattle.slices.specs.Arena.{put_size, put_link}
+use Rattle.slices.proofs.Arena.{put_size_length, put_link_length, put_size_byte, put_link_byte}
 use Rattle.slices.specs.Heads.{put_head}
 use Rattle.slices.specs.Slices.{Slices, store_at, store, stores}
-use Rattle.slices.specs.Fields.{by_field}
+use Rattle.slices.proofs.Fields.{by_field}
 use Rattle.undo.specs.declared.Saved.{Saved}
 use Rattle.undo.specs.Agree.{Clear, Agree, agree_refl, agree_trans, Else, Alike, alike_refl, alike_trans}
 use Rattle.undo.specs.Saved.{words_of, entries_of}

@@ -6,9 +6,10 @@ use Rattle.word.specs.Word.{word_at}
 use Rattle.table.specs.Table.{entry}
 use Rattle.bits.specs.Map.{map_words}
 use Rattle.script.specs.Memory.{Size, Before, Next, Prev, Write}
-use Rattle.slices.specs.Decode.{grains, grains_keep}
-use Rattle.slices.specs.Arena.{field_inside}
-use Rattle.slices.specs.Kept.{stores_lengths}
+use Rattle.slices.specs.Decode.{grains}
+use Rattle.slices.proofs.Decode.{grains_keep}
+use Rattle.slices.proofs.Arena.{field_inside}
+use Rattle.slices.proofs.Kept.{stores_lengths}
 use Rattle.header.specs.Turned.{turned}
 use Rattle.free_list.specs.Lent.{lent, Room, no_link, Leads, leads_grain}
 use Rattle.free_list.specs.Written.{WrittenLive}

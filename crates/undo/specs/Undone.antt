@@ -6,7 +6,7 @@ use Rattle.word.specs.Word.{put_at}
 use Rattle.table.specs.Table.{entry, enter}
 use Rattle.script.specs.Memory.{Size, Before, Next, Prev, Write}
 use Rattle.slices.specs.Slices.{stores}
-use Rattle.slices.specs.Kept.{stores_lengths}
+use Rattle.slices.proofs.Kept.{stores_lengths}
 use Rattle.free_list.specs.Lent.{lent, no_link}
 use Rattle.free_list.specs.Written.{WrittenLive}
 use Rattle.occupy.specs.Taken.{Ready, taken_writes}

@@ -2,7 +2,7 @@
 -- only one. Assumes nothing.
 use native.Mathlib.Omega.{arith}
 use lib.Count.{trailing_le}
-use Rattle.align.specs.Code.{test_zero, shift_lt, test_yes, test_no}
+use Rattle.align.proofs.CodeLaws.{test_zero, shift_lt, test_yes, test_no}
 use Rattle.align.proofs.is_power.Goals as goal
 
 pub returns-then-a-eq0 : goal.returns-then-a-eq0

@@ -1,8 +1,8 @@
 -- `align::round_down` meets its contract: shifting down and up again gives the last multiple at or before x. Assumes nothing.
 use native.Mathlib.Omega.{arith}
 use lib.Count.{trailing_le}
-use Rattle.align.specs.Align.{power_pos}
-use Rattle.align.specs.Code.{shift_lt, round_down_code}
+use Rattle.align.proofs.Align.{power_pos}
+use Rattle.align.proofs.CodeLaws.{shift_lt, round_down_code}
 use Rattle.align.proofs.round_down.Goals as goal
 
 pub overflow_cast-result : goal.overflow_cast-result

@@ -1,8 +1,8 @@
 -- `align::round_up` meets its contract: shifting down and up again gives the first multiple at or after x. Assumes nothing.
 use native.Mathlib.Omega.{arith}
 use lib.Count.{trailing_le}
-use Rattle.align.specs.Code.{shift_lt, round_up_code}
-use Rattle.align.specs.Align.{power_pos}
+use Rattle.align.proofs.CodeLaws.{shift_lt, round_up_code}
+use Rattle.align.proofs.Align.{power_pos}
 use Rattle.align.proofs.round_up.Goals as goal
 
 pub overflow_sub-result : goal.overflow_sub-result

@@ -1,7 +1,7 @@
 -- `allocate::cut`: the payload's place and what the block keeps, then the rest and what is next, whose answers decide.
 use native.Mathlib.Omega.{arith}
 use borrow.Author.Tests.{not-true, not-false}
-use Rattle.align.specs.Align.{power_pos}
+use Rattle.align.proofs.Align.{power_pos}
 use Rattle.choice.specs.Says.{says_yes, says_no}
 use Rattle.invariants.specs.Placing.{place_most}
 use Rattle.header.specs.Turned.{grains_few}

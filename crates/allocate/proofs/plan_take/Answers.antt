@@ -3,11 +3,12 @@ use Prim.Native.Nat.{◌+◌, ◌-◌, ◌/◌, ◌<◌}
 use native.Mathlib.Omega.{arith}
 use mathlib.Core.Path.{◌≡◌, ap, ◌∙◌}
 use borrow.Author.Tests.{not-true, not-false}
-use Rattle.align.specs.Align.{power_pos}
-use Rattle.class.specs.Class.{start_of, start_small}
+use Rattle.align.proofs.Align.{power_pos}
+use Rattle.class.specs.Class.{start_of}
+use Rattle.class.proofs.Class.{start_small}
 use Rattle.definition.specs.Calls.{wanted}
 use Rattle.invariants.specs.Placing.{wanted_some}
-use Rattle.invariants.specs.Placing.{wanted_counted}
+use Rattle.invariants.proofs.Placing.{wanted_counted}
 use Rattle.allocate.specs.Plan.{plan_large, plan_none, plan_damaged, plan_cut, plan_enough}
 use Rattle.allocate.proofs.plan_take.Goals as goal
 use Rattle.allocate.proofs.plan_take.Goals.{After-map_ceil, Start}

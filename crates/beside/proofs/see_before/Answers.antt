@@ -2,7 +2,7 @@
 use native.Mathlib.Omega.{arith}
 use mathlib.Core.Path.{◌∙◌}
 use Rattle.choice.specs.Says.{says_yes, says_no}
-use Rattle.lent.specs.TagWords.{count_fits}
+use Rattle.lent.proofs.TagWords.{count_fits}
 use Rattle.beside.specs.Sides.{before_first, before_used, before_free}
 use Rattle.beside.proofs.see_before.Goals as goal
 

@@ -1,7 +1,7 @@
 -- `beside::see_large`: each return is one step of the script.
 use native.Mathlib.Omega.{arith}
 use mathlib.Core.Path.{◌∙◌}
-use Rattle.lent.specs.TagWords.{count_fits}
+use Rattle.lent.proofs.TagWords.{count_fits}
 use Rattle.beside.specs.Owns.{large_first, large_near, large_wide}
 use Rattle.beside.proofs.see_large.Goals as goal
 

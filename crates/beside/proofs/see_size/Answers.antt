@@ -1,7 +1,7 @@
 -- `beside::see_size`: each return says of one step of the check that it is not passed, and the last of all that they are.
 use native.Mathlib.Omega.{arith}
 use Rattle.lent.specs.Slices.{grains}
-use Rattle.lent.specs.Shown.{grains_below}
+use Rattle.lent.proofs.Shown.{grains_below}
 use Rattle.entries.specs.Answers.{held}
 use Rattle.beside.specs.Owns.{owned_decides}
 use Rattle.beside.proofs.see_size.Goals as goal

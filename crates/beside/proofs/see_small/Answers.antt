@@ -1,7 +1,7 @@
 -- `beside::see_small`: each return is one step of the script.
 use native.Mathlib.Omega.{arith}
 use mathlib.Core.Path.{◌∙◌}
-use Rattle.lent.specs.TagWords.{count_fits}
+use Rattle.lent.proofs.TagWords.{count_fits}
 use Rattle.beside.specs.Owns.{small_dead, small_live}
 use Rattle.beside.proofs.see_small.Goals as goal
 

@@ -1,7 +1,7 @@
 -- `beside::see_wide`: each return is one step of the script.
 use native.Mathlib.Omega.{arith}
 use mathlib.Core.Path.{◌∙◌}
-use Rattle.lent.specs.TagWords.{count_fits}
+use Rattle.lent.proofs.TagWords.{count_fits}
 use Rattle.beside.specs.Owns.{wide_dead, wide_short, wide_below, wide_torn, wide_live}
 use Rattle.beside.proofs.see_wide.Goals as goal
 

@@ -4,7 +4,8 @@ use lib.Count.{count_trailing_zeros}
 use mathlib.Core.Path.{◌≡◌}
 use native.Mathlib.Omega.{arith}
 use Prim.Native.Nat.{◌<◌, ◌+◌, ◌/◌, ◌%◌, ◌^◌}
-use Rattle.bits.specs.Search.{first_marked, left_some, left_none, at_end_lem}
+use Rattle.bits.specs.Search.{first_marked}
+use Rattle.bits.proofs.Search.{left_some, left_none, at_end_lem}
 use Rattle.bits.proofs.first_marked.Goals as goal
 use Rattle.bits.proofs.first_marked.Goals.{Else-rest-eq0}
 

@@ -2,7 +2,7 @@
 -- Assumes nothing.
 use native.Mathlib.Omega.{arith}
 use Prim.Native.Nat.{◌+◌, ◌*◌}
-use Rattle.bits.specs.Search.{at_end_lem}
+use Rattle.bits.proofs.Search.{at_end_lem}
 use Rattle.bits.proofs.from_behind.Goals as goal
 
 pub returns-then-i-eq0 : goal.returns-then-i-eq0

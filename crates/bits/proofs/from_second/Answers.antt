@@ -1,7 +1,8 @@
 -- `bits::from_second` meets its contract: the answer is in the second word, or it is that of the third. Assumes nothing.
 use native.Mathlib.Omega.{arith}
 use mathlib.Core.Path.{◌≡◌, refl, ◌∙◌}
-use Rattle.bits.specs.Search.{in_word, found_at, passed_to}
+use Rattle.bits.specs.Search.{in_word}
+use Rattle.bits.proofs.Search.{found_at, passed_to}
 use Rattle.bits.proofs.from_second.Goals as goal
 use Rattle.bits.proofs.from_second.Goals.{After-lowest_from-r}
 

@@ -1,7 +1,8 @@
 -- `bits::from_third` meets its contract: the answer is in the last word, or there is none. Assumes nothing.
 use native.Mathlib.Omega.{arith}
 use mathlib.Core.Path.{◌≡◌, refl, ◌∙◌}
-use Rattle.bits.specs.Search.{in_word, found_at, passed_to, at_end_lem}
+use Rattle.bits.specs.Search.{in_word}
+use Rattle.bits.proofs.Search.{found_at, passed_to, at_end_lem}
 use Rattle.bits.proofs.from_third.Goals as goal
 use Rattle.bits.proofs.from_third.Goals.{After-lowest_from-r}
 

@@ -1,6 +1,7 @@
 -- `bits::is_marked` meets its contract: a list's bit is the table's. Assumes nothing.
 use mathlib.Core.Path.{◌≡◌, sym, ◌∙◌}
-use Rattle.bits.specs.Map.{map_bit, map_bit_is}
+use Rattle.bits.specs.Map.{map_bit}
+use Rattle.bits.proofs.Map.{map_bit_is}
 use Rattle.bits.proofs.is_marked.Goals as goal
 use Rattle.bits.proofs.is_marked.Goals.{After-table_bit}
 

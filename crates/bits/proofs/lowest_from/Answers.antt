@@ -3,7 +3,7 @@ use native.Mathlib.Omega.{arith}
 use Prim.Native.Nat.{◌/◌, ◌^◌}
 use lib.Count.{trailing_le}
 use mathlib.Core.Path.{sym}
-use Rattle.bits.specs.Zeros.{none_left, some_left}
+use Rattle.bits.proofs.Zeros.{none_left, some_left}
 use Rattle.bits.proofs.lowest_from.Goals as goal
 
 pub returns-then-rest-eq0 : goal.returns-then-rest-eq0

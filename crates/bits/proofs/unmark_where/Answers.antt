@@ -1,6 +1,6 @@
 -- `bits::unmark_where` meets its contract: the word is fetched, changed or not, and stored. Assumes nothing.
 use mathlib.Core.Path.{◌∙◌}
-use Rattle.bits.specs.Map.{unmark_where}
+use Rattle.bits.proofs.Map.{unmark_where}
 use Rattle.bits.proofs.unmark_where.Goals as goal
 
 pub returns : goal.returns

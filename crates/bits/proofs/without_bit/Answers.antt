@@ -1,5 +1,5 @@
 -- `bits::without_bit` meets its contract: or, then exclusive or, with a 1 shifted to the bit's place. Assumes nothing.
-use Rattle.bits.specs.Bit.{clear_bit_code}
+use Rattle.bits.proofs.Bit.{clear_bit_code}
 use Rattle.bits.proofs.without_bit.Goals as goal
 
 pub returns : goal.returns

@@ -1,6 +1,6 @@
 -- `carve::put_left`: a whole block, or one pushed and split off.
 use native.Mathlib.Omega.{arith}
-use Rattle.slices.specs.Decode.{grains_keep}
+use Rattle.slices.proofs.Decode.{grains_keep}
 use Rattle.header.specs.Turned.{grains_few}
 use Rattle.free_list.specs.Lent.{link}
 use Rattle.free_list.specs.Written.{written_length}

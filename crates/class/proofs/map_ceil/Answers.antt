@@ -2,7 +2,8 @@
 -- Its sums and shifts lose nothing, since the quotient is from 16 to 32 (`fits`). Assumes nothing.
 use native.Mathlib.Omega.{arith}
 use Rattle.class.specs.Class.{start_of}
-use Rattle.class.specs.Fit.{FitsUp, fits_up}
+use Rattle.class.specs.Fit.{FitsUp}
+use Rattle.class.proofs.Fit.{fits_up}
 use Rattle.class.proofs.map_ceil.Goals as goal
 use Rattle.class.proofs.map_ceil.Goals.{After-top_bit-f}
 

@@ -2,7 +2,8 @@
 -- Its sums and shifts lose nothing, since the quotient is from 16 to 31 (`fits`). Assumes nothing.
 use native.Mathlib.Omega.{arith}
 use Rattle.class.specs.Class.{list_of}
-use Rattle.class.specs.Fit.{FitsDown, fits_down}
+use Rattle.class.specs.Fit.{FitsDown}
+use Rattle.class.proofs.Fit.{fits_down}
 use Rattle.class.proofs.map_floor.Goals as goal
 use Rattle.class.proofs.map_floor.Goals.{After-top_bit-f}
 

@@ -1,6 +1,6 @@
 -- `class::top_bit` meets its contract: 63 less the zeros above the highest set bit is the bit's place. Assumes nothing.
 use native.Mathlib.Omega.{arith}
-use Rattle.class.specs.Log.{log_code}
+use Rattle.class.proofs.Log.{log_code}
 use Rattle.class.proofs.top_bit.Goals as goal
 
 pub overflow_cast-result : goal.overflow_cast-result

@@ -1,7 +1,7 @@
 -- `deallocate::put_joined`: the writes of the calls, one after the other; none of them changes a length.
 use native.Mathlib.Omega.{arith}
 use Rattle.sound.specs.Links.{push_writes}
-use Rattle.slices.specs.Decode.{grains_keep}
+use Rattle.slices.proofs.Decode.{grains_keep}
 use Rattle.free_list.specs.Lent.{link}
 use Rattle.free_list.specs.Written.{written_length}
 use Rattle.deallocate.specs.Written.{returned}

@@ -1,6 +1,6 @@
 -- `entries::enter`: the links, the head, and the mark.
 use mathlib.Core.Path.{sym, ◌∙◌}
-use Rattle.lent.specs.Fields.{mark_set}
+use Rattle.lent.proofs.Fields.{mark_set}
 use Rattle.entries.specs.Stepped.{entered}
 use Rattle.entries.specs.Heads.{first_is, first_inside}
 use Rattle.entries.proofs.enter.Goals as goal

@@ -1,6 +1,6 @@
 -- `entries::join_links`: the two words, one after the other.
 use mathlib.Core.Path.{◌∙◌}
-use Rattle.lent.specs.Kept.{next_grains}
+use Rattle.lent.proofs.Kept.{next_grains}
 use Rattle.entries.specs.Seen.{chosen_is}
 use Rattle.entries.proofs.join_links.Goals as goal
 

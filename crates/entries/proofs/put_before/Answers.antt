@@ -1,6 +1,6 @@
 -- `entries::put_before`: the three words, one after the other.
 use mathlib.Core.Path.{◌∙◌}
-use Rattle.lent.specs.Kept.{prev_grains}
+use Rattle.lent.proofs.Kept.{prev_grains}
 use Rattle.entries.proofs.put_before.Goals as goal
 
 pub put_prev-requires-2 : goal.put_prev-requires-2

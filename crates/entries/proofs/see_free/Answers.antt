@@ -7,8 +7,8 @@ use Rattle.machine.specs.Machine.{piece}
 use Rattle.tags.specs.Tag.{flags}
 use Rattle.tags.specs.Decode.{Busy}
 use Rattle.lent.specs.Slices.{tag_of}
-use Rattle.lent.specs.TagWords.{count_fits}
-use Rattle.lent.specs.Shown.{grains_below}
+use Rattle.lent.proofs.TagWords.{count_fits}
+use Rattle.lent.proofs.Shown.{grains_below}
 use Rattle.entries.specs.Agrees.{entry_tag, FreeStart, FreeEnd, Begins}
 use Rattle.entries.specs.Seen.{whole_seen}
 use Rattle.entries.proofs.see_free.Goals as goal

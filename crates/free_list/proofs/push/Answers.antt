@@ -1,6 +1,6 @@
 -- `free_list::push`: the writes of the three parts, one after the other.
 use native.Mathlib.Omega.{arith}
-use Rattle.slices.specs.Decode.{grains_keep}
+use Rattle.slices.proofs.Decode.{grains_keep}
 use Rattle.header.specs.Turned.{grains_few}
 use Rattle.free_list.specs.Written.{written_length}
 use Rattle.free_list.specs.Moves.{pushed}

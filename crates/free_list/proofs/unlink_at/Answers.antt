@@ -2,7 +2,7 @@
 use native.Mathlib.Omega.{arith}
 use mathlib.Core.Path.{ap, ◌∙◌}
 use Rattle.choice.specs.Choice.{if_eq}
-use Rattle.slices.specs.Decode.{grains_keep}
+use Rattle.slices.proofs.Decode.{grains_keep}
 use Rattle.free_list.specs.Lent.{no_link, leads_keep}
 use Rattle.free_list.specs.Led.{led_length, led_other}
 use Rattle.free_list.specs.Moves.{next_led, prev_led, unlinked}

@@ -1,7 +1,7 @@
 -- `give::list_of` meets its contract: the block of a piece has a list. Assumes nothing.
 use Prim.Native.Nat.{◌-◌}
 use native.Mathlib.Omega.{arith}
-use Rattle.class.specs.Class.{list_small}
+use Rattle.class.proofs.Class.{list_small}
 use Rattle.give.proofs.list_of.Goals as goal
 
 pub returns : goal.returns

@@ -3,7 +3,7 @@ use native.Mathlib.Omega.{arith}
 use mathlib.Core.Bool.{true, false}
 use mathlib.Core.Path.{◌≡◌, ap, refl, ◌∙◌, subst}
 use Prim.Native.Nat.{ℕ}
-use Rattle.align.specs.Align.{power_pos}
+use Rattle.align.proofs.Align.{power_pos}
 use Rattle.definition.specs.Calls.{keeps}
 use Rattle.invariants.specs.Placing.{place_most}
 use Rattle.script.specs.Script.{run}

@@ -3,10 +3,11 @@ use native.Mathlib.Omega.{arith}
 use mathlib.Core.List.{[]}
 use mathlib.Core.Path.{◌≡◌, ap, ◌∙◌}
 use Prim.Native.Nat.{◌+◌, ◌-◌, ◌/◌, ◌<◌}
-use Rattle.align.specs.Align.{power_pos}
-use Rattle.class.specs.Class.{start_of, start_small}
+use Rattle.align.proofs.Align.{power_pos}
+use Rattle.class.specs.Class.{start_of}
+use Rattle.class.proofs.Class.{start_small}
 use Rattle.definition.specs.Calls.{wanted}
-use Rattle.invariants.specs.Placing.{wanted_counted}
+use Rattle.invariants.proofs.Placing.{wanted_counted}
 use Rattle.machine.specs.Machine.{classes}
 use Rattle.entries.specs.Answers.{told, refused_is}
 use Rattle.hand_out.specs.Answers.{taken_of}

@@ -3,14 +3,14 @@ use Prim.Native.Nat.{ℕ, ◌+◌, ◌*◌}
 use native.Mathlib.Omega.{arith}
 use mathlib.Core.Path.{◌≡◌, refl, ap, sym, ◌∙◌, subst}
 use mathlib.Core.List.{List}
-use Rattle.align.specs.Align.{power_pos}
+use Rattle.align.proofs.Align.{power_pos}
 use Rattle.definition.specs.Calls.{place, keeps}
 use Rattle.invariants.specs.Placing.{place_most}
 use Rattle.chains.specs.Steps.{Step, leave}
 use Rattle.tags.specs.Writes.{allocate_tags}
 use Rattle.plans.specs.Allocate.{Taken, rest_steps, taken_steps}
 use Rattle.lent.specs.Slices.{grains}
-use Rattle.lent.specs.Shown.{grains_below}
+use Rattle.lent.proofs.Shown.{grains_below}
 use Rattle.stamps.specs.Stores.{tag_stores}
 use Rattle.deeds.specs.Runs.{Runs, CanRun, can_leave, run_next, runs_then, runs_grains}
 use Rattle.hand_out.specs.Take.{take_done}

@@ -1,7 +1,7 @@
 -- `header::field`: the word lies in the arena, and `word::get` reads it.
 use native.Mathlib.Omega.{arith}
 use Rattle.word.specs.Word.{word_at}
-use Rattle.slices.specs.Arena.{field_inside}
+use Rattle.slices.proofs.Arena.{field_inside}
 use Rattle.header.proofs.field.Goals as goal
 
 pub overflow_mul-g : goal.overflow_mul-g

@@ -1,7 +1,7 @@
 -- `header::put_field`: the word lies in the arena, and `word::put` writes it.
 use native.Mathlib.Omega.{arith}
 use Rattle.word.specs.Word.{put_at}
-use Rattle.slices.specs.Arena.{field_inside}
+use Rattle.slices.proofs.Arena.{field_inside}
 use Rattle.header.proofs.put_field.Goals as goal
 
 pub overflow_mul-g : goal.overflow_mul-g

@@ -1,7 +1,7 @@
 -- `lent::count`: the count stands below the flags.
 use native.Mathlib.Omega.{arith}
 use mathlib.Core.Path.{sym}
-use Rattle.lent.specs.TagWords.{tag_count}
+use Rattle.lent.proofs.TagWords.{tag_count}
 use Rattle.lent.proofs.count.Goals as goal
 
 pub returns : goal.returns

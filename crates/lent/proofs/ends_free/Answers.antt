@@ -1,6 +1,6 @@
 -- `lent::ends_free`: one comparison says it.
 use native.Mathlib.Omega.{arith}
-use Rattle.lent.specs.TagWords.{ends_free}
+use Rattle.lent.proofs.TagWords.{ends_free}
 use Rattle.lent.proofs.ends_free.Goals as goal
 
 pub returns-then-tag-s : goal.returns-then-tag-s

@@ -2,7 +2,7 @@
 use mathlib.Core.Path.{ap, sym, ◌∙◌}
 use Rattle.choice.specs.Choice.{eq_yes, eq_no}
 use Rattle.lent.specs.Slices.{tag_word}
-use Rattle.lent.specs.TagWords.{small_word, large_word}
+use Rattle.lent.proofs.TagWords.{small_word, large_word}
 use Rattle.lent.proofs.first_tag.Goals as goal
 
 pub returns-then-d-eq1 : goal.returns-then-d-eq1

@@ -1,7 +1,7 @@
 -- `lent::flags_of`: the flags stand above the count.
 use native.Mathlib.Omega.{arith}
 use mathlib.Core.Path.{sym}
-use Rattle.lent.specs.TagWords.{tag_flags}
+use Rattle.lent.proofs.TagWords.{tag_flags}
 use Rattle.lent.proofs.flags_of.Goals as goal
 
 pub returns : goal.returns

@@ -1,6 +1,6 @@
 -- `lent::is_busy`: two comparisons say it.
 use native.Mathlib.Omega.{arith}
-use Rattle.lent.specs.TagWords.{is_busy}
+use Rattle.lent.proofs.TagWords.{is_busy}
 use Rattle.lent.proofs.is_busy.Goals as goal
 
 pub returns-then-tag-lt-STARTS : goal.returns-then-tag-lt-STARTS

@@ -1,6 +1,6 @@
 -- `lent::is_guarded`: the two words are compared with the guard's.
 use native.Mathlib.Omega.{arith}
-use Rattle.lent.specs.Shown.{grains_below}
+use Rattle.lent.proofs.Shown.{grains_below}
 use Rattle.lent.proofs.is_guarded.Goals as goal
 
 pub guard_next-requires : goal.guard_next-requires

@@ -1,7 +1,7 @@
 -- `lent::next`: the word lies in the arena, and `machine::get` reads it.
 use native.Mathlib.Omega.{arith}
 use mathlib.Core.Path.{◌∙◌}
-use Rattle.lent.specs.Fields.{next_bytes, grain_inside}
+use Rattle.lent.proofs.Fields.{next_bytes, grain_inside}
 use Rattle.lent.proofs.next.Goals as goal
 
 pub overflow_mul-x : goal.overflow_mul-x

@@ -1,7 +1,7 @@
 -- `lent::prev`: the word lies in the arena, and `machine::get` reads it.
 use native.Mathlib.Omega.{arith}
 use mathlib.Core.Path.{◌∙◌}
-use Rattle.lent.specs.Fields.{prev_bytes, grain_inside}
+use Rattle.lent.proofs.Fields.{prev_bytes, grain_inside}
 use Rattle.lent.proofs.prev.Goals as goal
 
 pub overflow_mul-x : goal.overflow_mul-x

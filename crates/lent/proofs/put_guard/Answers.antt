@@ -1,8 +1,8 @@
 -- `lent::put_guard`: the two words, one after the other.
 use native.Mathlib.Omega.{arith}
 use mathlib.Core.Path.{◌∙◌}
-use Rattle.lent.specs.Kept.{next_grains}
-use Rattle.lent.specs.Shown.{grains_below}
+use Rattle.lent.proofs.Kept.{next_grains}
+use Rattle.lent.proofs.Shown.{grains_below}
 use Rattle.lent.proofs.put_guard.Goals as goal
 
 pub guard_next-requires : goal.guard_next-requires

@@ -1,7 +1,7 @@
 -- `lent::put_prev`: the word lies in the arena, and `machine::put` writes it.
 use native.Mathlib.Omega.{arith}
 use mathlib.Core.Path.{◌∙◌}
-use Rattle.lent.specs.Fields.{put_prev_bytes, grain_inside}
+use Rattle.lent.proofs.Fields.{put_prev_bytes, grain_inside}
 use Rattle.lent.proofs.put_prev.Goals as goal
 
 pub overflow_mul-x : goal.overflow_mul-x

@@ -1,6 +1,6 @@
 -- `lent::starts_free`: two comparisons say it.
 use native.Mathlib.Omega.{arith}
-use Rattle.lent.specs.TagWords.{starts_free}
+use Rattle.lent.proofs.TagWords.{starts_free}
 use Rattle.lent.proofs.starts_free.Goals as goal
 
 pub returns-then-tag-le-FREE_STARTS : goal.returns-then-tag-le-FREE_STARTS

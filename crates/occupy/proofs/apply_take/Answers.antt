@@ -2,7 +2,7 @@
 use native.Mathlib.Omega.{arith}
 use mathlib.Core.Path.{refl, ◌∙◌}
 use mathlib.Core.Logic.{inl}
-use Rattle.slices.specs.Decode.{grains_keep}
+use Rattle.slices.proofs.Decode.{grains_keep}
 use Rattle.header.specs.Turned.{grains_few}
 use Rattle.free_list.specs.Lent.{leads_keep}
 use Rattle.free_list.specs.Written.{written_length, written_room}

@@ -1,7 +1,7 @@
 -- `request::payload_of` meets its contract, one law for each way out. Past the first test there is an alignment (`known`),
 -- past the second the offset is a multiple of it. Assumes nothing.
 use Rattle.choice.specs.Says.{says_yes, says_no}
-use Rattle.align.specs.Align.{power_pos}
+use Rattle.align.proofs.Align.{power_pos}
 use Rattle.request.specs.Alignment.{Alignment}
 use Rattle.request.specs.Returned.{unsuited_none, unsuited_rest, unsuited_kind, returned_large, returned_small, returned_none}
 use Rattle.request.proofs.payload_of.Goals as goal

@@ -1,6 +1,6 @@
 -- `request::place_of` meets its contract: the mask cuts out what the block's start is beyond a multiple. Assumes nothing.
 use Prim.Native.Nat.{◌*◌}
-use Rattle.align.specs.Align.{power_pos}
+use Rattle.align.proofs.Align.{power_pos}
 use Rattle.request.specs.Placed.{rest_most, place_masked}
 use Rattle.request.proofs.place_of.Goals as goal
 

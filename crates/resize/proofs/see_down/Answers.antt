@@ -5,7 +5,7 @@ use mathlib.Core.Bool.{true, false}
 use Prim.Native.Nat.{ℕ, ◌+◌, ◌-◌, ◌*◌}
 use Rattle.lent.specs.Slices.{grains}
 use Rattle.entries.specs.Answers.{held, verdict}
-use Rattle.align.specs.Align.{power_pos}
+use Rattle.align.proofs.Align.{power_pos}
 use Rattle.definition.specs.Calls.{place, keeps}
 use Rattle.invariants.specs.Placing.{place_most}
 use Rattle.script.specs.Script.{run}

@@ -1,6 +1,6 @@
 -- `slide::apply_down`: the block is made, then its pad, and then the live bits are turned; none of them changes a length.
 use native.Mathlib.Omega.{arith}
-use Rattle.slices.specs.Decode.{grains_keep}
+use Rattle.slices.proofs.Decode.{grains_keep}
 use Rattle.header.specs.Turned.{grains_few}
 use Rattle.free_list.specs.Written.{written_length}
 use Rattle.slide.specs.Stored.{cleared_room, moved_down}

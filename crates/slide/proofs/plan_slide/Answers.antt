@@ -5,8 +5,9 @@ use native.Mathlib.Omega.{arith}
 use mathlib.Core.Path.{sym, subst}
 use mathlib.Core.List.{[]}
 use borrow.Author.Tests.{not-true, not-false}
-use Rattle.align.specs.Align.{power_pos}
-use Rattle.invariants.specs.Placing.{place_some, place_most}
+use Rattle.align.proofs.Align.{power_pos}
+use Rattle.invariants.specs.Placing.{place_most}
+use Rattle.invariants.proofs.Placing.{place_some}
 use Rattle.header.specs.Turned.{grains_few}
 use Rattle.neighbours.specs.Leaving.{Known, first_of}
 use Rattle.neighbours.specs.Within.{before_within, known_second}

@@ -1,6 +1,6 @@
 -- `stamps::clear`: one write.
 use mathlib.Core.Path.{sym}
-use Rattle.lent.specs.TagWords.{zero_word}
+use Rattle.lent.proofs.TagWords.{zero_word}
 use Rattle.stamps.specs.Stores.{stored}
 use Rattle.stamps.proofs.clear.Goals as goal
 

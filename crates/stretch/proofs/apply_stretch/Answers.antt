@@ -1,6 +1,6 @@
 -- `stretch::apply_stretch`: the neighbour leaves and the block is made, one after the other; both keep the lengths.
 use native.Mathlib.Omega.{arith}
-use Rattle.slices.specs.Decode.{grains_keep}
+use Rattle.slices.proofs.Decode.{grains_keep}
 use Rattle.header.specs.Turned.{grains_few}
 use Rattle.free_list.specs.Lent.{leads_keep}
 use Rattle.free_list.specs.Written.{written_length, written_room}

@@ -3,7 +3,7 @@ use native.Mathlib.Omega.{arith}
 use mathlib.Core.List.{[]}
 use mathlib.Core.Path.{refl, ap, ◌∙◌}
 use Rattle.lent.specs.Slices.{grains}
-use Rattle.lent.specs.Shown.{grains_below}
+use Rattle.lent.proofs.Shown.{grains_below}
 use Rattle.entries.specs.Answers.{held, verdict, told, refused_is, granted_is}
 use Rattle.beside.specs.Holds.{before_holds}
 use Rattle.take_back.specs.Answers.{freed_of}

@@ -1,6 +1,6 @@
 -- `undo::undo_take`: the parts put back, one after the other; none of them changes a length.
 use mathlib.Core.Path.{◌∙◌}
-use Rattle.slices.specs.Decode.{grains_keep}
+use Rattle.slices.proofs.Decode.{grains_keep}
 use Rattle.undo.specs.Undone.{undone}
 use Rattle.undo.proofs.undo_take.Goals as goal
 

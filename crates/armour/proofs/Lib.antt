@@ -1,0 +1,22 @@
+-- What is proved of the definitions in specs/.
+pub mod Allocates
+pub mod Apart
+pub mod Calls
+pub mod Carried
+pub mod Changed
+pub mod Dead
+pub mod Deallocates
+pub mod Elsewhere
+pub mod InPlace
+pub mod Inserts
+pub mod Known
+pub mod Laid
+pub mod Ledger
+pub mod Listing
+pub mod Moved
+pub mod Reallocates
+pub mod Regions
+pub mod Resizes
+pub mod Runs
+pub mod Stays
+pub mod Turns

@@ -1,0 +1,19 @@
+-- What is proved of the definitions in specs/.
+pub mod Begins
+pub mod Bytes
+pub mod Conditions
+pub mod Damage
+pub mod Fills
+pub mod Handed
+pub mod Numbers
+pub mod One
+pub mod Payload
+pub mod Performs
+pub mod Promised
+pub mod Refines
+pub mod Rehoused
+pub mod Resizes
+pub mod Room
+pub mod Runs
+pub mod Storable
+pub mod Untouched
