@@ -21,8 +21,8 @@ use Rattle.calls.specs.Performs.{Long, grains_of, most_of, outcome, Early, short
 use Rattle.calls.specs.Refines.{Spare, behind_not_live}
 use Rattle.calls.proofs.Refines.{asks_fair}
 use Rattle.calls.proofs.Room.{room_or_full}
-use Rattle.calls.proofs.One.{performs_one}
-use Rattle.calls.specs.Conditions.{refused_in, live_inside}
+use Rattle.calls.specs.One.{performs_one}
+use Rattle.calls.specs.Conditions.{refused_by, refused_in, live_inside}
 
 -- ---- never 5
 
@@ -47,13 +47,6 @@ performs_never_5 S k r T h o (refused K i g q) e =
     (λ (f : outcome S K ≡ no 6). let u : i ≡ 6 = cc in omega arith)
     (room_or_full S h o k K g.asks)
 performs_never_5 S k r T h o (granted K p g q) e = let z : ◌≡◌ {A = ℕ} 0 1 = cc in omega arith
-
--- ---- a call that goes on is refused exactly where its script is
-
-module _ (S : Slices) (k : ByteCall) (K : Call) (g : Goes S k K) (r : Reply) (T : Slices) where
-  -- the script refuses, so the call does
-  refused_by : (i : ℕ) → Performs S k r T → outcome S K ≡ no i → r ≡ not i
-  refused_by i p e = (performs_one S k r (not i) T S p (refused K i g e)).0
 
 -- ---- a payload
 

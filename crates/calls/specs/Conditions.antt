@@ -25,9 +25,14 @@ use Rattle.request.specs.Returned.{Stands}
 use Rattle.calls.specs.Bytes.{ByteCall, allocate, reallocate, take, resize}
 use Rattle.calls.specs.Performs.{Long, grains_of, outcome, Goes, Performs, early, refused, granted, Stand}
 use Rattle.calls.specs.Refines.{behind_not_live}
-use Rattle.calls.specs.One.{asks_one, goes_late}
+use Rattle.calls.specs.One.{asks_one, goes_late, performs_one}
 
 -- ---- a call that goes on is refused exactly where its script is
+
+module _ (S : Slices) (k : ByteCall) (K : Call) (g : Goes S k K) (r : Reply) (T : Slices) where
+  -- the script refuses, so the call does
+  pub refused_by : (i : ℕ) → Performs S k r T → outcome S K ≡ no i → r ≡ not i
+  refused_by i p e = (performs_one S k r (not i) T S p (refused K i g e)).0
 
 -- the call does, so the script refuses
 pub refused_in : (S : Slices) (k : ByteCall) (K : Call) → Goes S k K → (i : ℕ) (r : Reply) (T : Slices) → Performs S k r T → r ≡ not i → outcome S K ≡ no i

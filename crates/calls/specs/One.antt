@@ -1,12 +1,15 @@
 -- Only one reply is the definition's, with one heap, and what a call does to slices is one thing, too: so to say that a reply
 -- is the definition's, or that a call does this, says which it is.
 use Rattle.std.specs.Prelude.{ℕ, ◌≡◌, refl}
-use Rattle.std.proofs.Common.{ap, sym, ◌∙◌, subst}
+use Rattle.std.proofs.Common.{arith, ap, sym, ◌∙◌, subst}
 use Rattle.definition.specs.Units.{halves, multiple}
 use Rattle.sound.specs.Calls.{Call, Return, Resize}
-use Rattle.calls.specs.Bytes.{ByteCall, Wrong, range, unsuited, unkind, resize_range, resize_unsuited, resize_unkind, Asks, take, back, resize, give, follow}
+use Rattle.sound.specs.Runs.{Reply, yes, not}
+use Rattle.calls.specs.Bytes.{ByteCall, bytes, Wrong, range, unsuited, unkind, resize_range, resize_unsuited, resize_unkind, Asks, take, back, resize, give, follow}
+use Rattle.script.specs.Script.{Result, ok, no}
+use Rattle.sound.specs.Plans.{Plan}
 use Rattle.slices.specs.Slices.{Slices}
-use Rattle.calls.specs.Performs.{Inside, grains_of, Early, short, outside, Goes}
+use Rattle.calls.specs.Performs.{Inside, grains_of, outcome, Early, short, outside, Goes, stored, Performs, early, refused, granted}
 
 -- a call asks for one thing
 pub asks_one : (k : ByteCall) (K L : Call) → Asks k K → Asks k L → K ≡ L
@@ -27,11 +30,63 @@ asks_right k K i (resize r s) (resize_range n) = n r
 asks_right k K i (resize r s) (resize_unsuited u n) = n s.suits
 asks_right k K i (resize r s) (resize_unkind u v n) = n s.kind
 
+-- in one way
+pub wrong_one : (k : ByteCall) (i j : ℕ) → Wrong k i → Wrong k j → i ≡ j
+wrong_one k i j (range n) (range m) = refl
+wrong_one k i j (unsuited n) (unsuited m) = refl
+wrong_one k i j (unsuited n) (unkind u m) = absurd (n u)
+wrong_one k i j (unkind u n) (unsuited m) = absurd (m u)
+wrong_one k i j (unkind u n) (unkind v m) = refl
+wrong_one k i j (resize_range n) (resize_range m) = refl
+wrong_one k i j (resize_range n) (resize_unsuited u m) = refl
+wrong_one k i j (resize_range n) (resize_unkind u v m) = absurd (n u)
+wrong_one k i j (resize_unsuited u n) (resize_range m) = refl
+wrong_one k i j (resize_unsuited u n) (resize_unsuited v m) = refl
+wrong_one k i j (resize_unsuited u n) (resize_unkind v w m) = absurd (n w)
+wrong_one k i j (resize_unkind u v n) (resize_range m) = absurd (m u)
+wrong_one k i j (resize_unkind u v n) (resize_unsuited w m) = absurd (m v)
+wrong_one k i j (resize_unkind u v n) (resize_unkind w x m) = refl
+
 -- ---- on slices
 
+-- a script answers or refuses
+no_ok : (r : Result Plan) (i : ℕ) (p : Plan) → r ≡ no i → r ≡ ok p → ⊥
+no_ok r i p e f = let z : ◌≡◌ {A = ℕ} 0 1 = cc in omega arith
+
 module _ (S : Slices) (k : ByteCall) where
+  -- it is the same script for whatever was asked
+  same_outcome : (K L : Call) (r s : Result Plan) → Goes S k K → Goes S k L → outcome S K ≡ r → outcome S L ≡ s → r ≡ s
+  same_outcome K L r s a b e f = sym e ∙ ap (outcome S) (asks_one k K L a.asks b.asks) ∙ f
+
   -- what goes on is not refused early
   pub goes_late : (K : Call) (i : ℕ) → Goes S k K → Early S k i → ⊥
   goes_late K i g (short n) = n g.long
   goes_late K i g (Early.wrong j l w) = asks_right k K i g.asks w
   goes_late K i g (outside L l a n) = n (subst (Inside (grains_of S)) (asks_one k K L g.asks a) g.inside)
+
+  -- and what is, is with one number
+  early_one : (i j : ℕ) → Early S k i → Early S k j → i ≡ j
+  early_one i j (short n) (short m) = refl
+  early_one i j (short n) (Early.wrong h l w) = absurd (n l)
+  early_one i j (short n) (outside L l a m) = absurd (n l)
+  early_one i j (Early.wrong h l w) (short m) = absurd (m l)
+  early_one i j (Early.wrong h l w) (Early.wrong g m v) = wrong_one k i j w v
+  early_one i j (Early.wrong h l w) (outside L m a n) = absurd (asks_right k L i a w)
+  early_one i j (outside K l a n) (short m) = absurd (m l)
+  early_one i j (outside K l a n) (Early.wrong h m w) = absurd (asks_right k K j a w)
+  early_one i j (outside K l a n) (outside L m b g) = refl
+
+  -- so what a call does is one thing
+  pub performs_one : (r s : Reply) (T U : Slices) → Performs S k r T → Performs S k s U → (r ≡ s) × (T ≡ U)
+  performs_one r s T U (early i a) (early j b) = (ap not (early_one i j a b), refl)
+  performs_one r s T U (early i a) (refused L j b f) = absurd (goes_late L i b a)
+  performs_one r s T U (early i a) (granted L q b f) = absurd (goes_late L i b a)
+  performs_one r s T U (refused K i a e) (early j b) = absurd (goes_late K j a b)
+  performs_one r s T U (refused K i a e) (refused L j b f) = let z = same_outcome K L (no i) (no j) a b e f in (cc, refl)
+  performs_one r s T U (refused K i a e) (granted L q b f) = absurd (no_ok (no i) i q refl (same_outcome K L (no i) (ok q) a b e f))
+  performs_one r s T U (granted K p a e) (early j b) = absurd (goes_late K j a b)
+  performs_one r s T U (granted K p a e) (refused L j b f) = absurd (no_ok (no j) j p refl (same_outcome L K (no j) (ok p) b a f e))
+  performs_one r s T U (granted K p a e) (granted L q b f) =
+      let z = same_outcome K L (ok p) (ok q) a b e f in
+      let u : p ≡ q = cc in
+      (ap (λ (v : Plan). yes (bytes k v.answer)) u, ap (stored S K) u ∙ ap (λ (M : Call). stored S M q) (asks_one k K L a.asks b.asks))

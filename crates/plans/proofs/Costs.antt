@@ -1,5 +1,5 @@
 -- What follows from specs/Costs.antt.
-use Rattle.std.specs.Prelude.{ℕ, ◌+◌, ◌-◌, ◌*◌, ◌≤◌, List, [], ◌∷◌, ◌++◌, ◌≡◌}
+use Rattle.std.specs.Prelude.{ℕ, ◌+◌, ◌-◌, ◌*◌, ◌≤◌, List, ◌++◌, ◌≡◌}
 use Rattle.std.proofs.Common.{arith}
 use Rattle.choice.specs.Choice.{eq_case, le_case}
 use Rattle.definition.specs.Calls.{place, keeps}
@@ -8,27 +8,23 @@ use Rattle.script.proofs.Script.{ends_any}
 use Rattle.tags.proofs.Within.{stretch_length, down_length}
 use Rattle.chains.specs.Steps.{Step}
 use Rattle.plans.specs.Checks.{see_after, see_before, see_rest}
-use Rattle.plans.specs.Allocate.{rest_steps, Taken, taken_steps}
+use Rattle.plans.specs.Allocate.{rest_steps}
 use Rattle.plans.specs.Deallocate.{leave_steps, beside_steps, deallocate_deed}
-use Rattle.plans.specs.Reallocate.{stretch_deed, down_deed, elsewhere_deed, down_script, move_script, stretch_script, resize_script}
+use Rattle.plans.specs.Reallocate.{stretch_deed, down_deed, down_script, move_script, stretch_script, resize_script}
 use Rattle.plans.specs.Costs.{costs, deed_costs, Small, elsewhere_small}
 
 module _ (u v : ℕ) where
   costs_append : (a b : List Step) → costs u v (a ++ b) ≡ costs u v a + costs u v b
-  costs_append [] b = omega arith
-  costs_append (s ∷ a) b = omega (arith, costs_append a b)
+  costs_append = Rattle.plans.specs.Costs.costs_append u v
 
   rest_costs : (x t k : ℕ) → costs u v (rest_steps x t k) ≤ v
   rest_costs = Rattle.plans.specs.Costs.rest_costs u v
 
   leave_costs : (t y : ℕ) → costs u v (leave_steps t y) ≤ u
-  leave_costs t y = eq_case (λ (l : List Step). costs u v l ≤ u) t 0 _ _ (λ _. omega arith) (λ _. omega arith)
+  leave_costs = Rattle.plans.specs.Costs.leave_costs u v
 
   beside_costs : (x s a b : ℕ) → costs u v (beside_steps x s a b) ≤ 2 * u
-  beside_costs x s a b = omega (arith, costs_append (leave_steps b (x + s)) (leave_steps a (x - a)), leave_costs b (x + s), leave_costs a (x - a))
-
-  taken_costs : (p a : ℕ) (t : Taken) → costs u v (taken_steps p a t) ≤ u + v
-  taken_costs = Rattle.plans.specs.Costs.taken_costs u v
+  beside_costs = Rattle.plans.specs.Costs.beside_costs u v
 
   -- ---- of each deed
 
@@ -40,9 +36,6 @@ module _ (u v : ℕ) where
 
   down_costs : (x s d a b k e : ℕ) → deed_costs u v (down_deed x s d a b k e) ≤ 3 * u + 2 * v
   down_costs x s d a b k e = omega (arith, beside_costs x s a b, rest_costs (x - a) (a + (s + b)) k)
-
-  elsewhere_costs : (p m x s d a b : ℕ) (t : Taken) → deed_costs u v (elsewhere_deed p m x s d a b t) ≤ 3 * u + 2 * v
-  elsewhere_costs p m x s d a b t = omega (arith, costs_append (beside_steps x s a b) (taken_steps p m t), beside_costs x s a b, taken_costs p m t)
 
 -- ---- reallocate: three blocks leave, and two enter; there is one guard, and eleven other writes
 

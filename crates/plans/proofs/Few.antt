@@ -1,9 +1,9 @@
 -- What follows from specs/Few.antt.
-use Rattle.std.specs.Prelude.{ℕ, zero, suc, ◌+◌, ◌-◌, ◌*◌, ◌≤◌, ◌≡◌}
-use Rattle.std.proofs.Common.{suc-add, suc-mul, arith, subst}
+use Rattle.std.specs.Prelude.{ℕ, ◌+◌, ◌-◌, ◌*◌}
+use Rattle.std.proofs.Common.{arith}
 use Rattle.choice.specs.Choice.{eq_case, le_case}
 use Rattle.definition.specs.Calls.{place, keeps}
-use Rattle.script.specs.Script.{Script, read, first, done, stop, AtMost, few_bind}
+use Rattle.script.specs.Script.{Script, AtMost, few_bind}
 use Rattle.machine.specs.Machine.{map_words}
 use Rattle.plans.specs.Deeds.{Deed}
 use Rattle.plans.specs.Checks.{see_guard, see_owner, see_after, see_before, see_rest, see_join}
@@ -13,7 +13,7 @@ use Rattle.plans.specs.Costs.{Small}
 use Rattle.plans.proofs.Costs.{deallocate_costs, resize_small}
 use Rattle.plans.specs.FewChecks.{few_rest, few_join}
 use Rattle.plans.proofs.FewChecks.{few_ends, few_guard, few_owner, few_after_it, few_before_it}
-use Rattle.plans.specs.Few.{plan_reads, few_elsewhere}
+use Rattle.plans.specs.Few.{plan_reads, few_elsewhere, Words, words_few}
 
 -- ---- the calls
 
@@ -59,25 +59,6 @@ reallocate_reads n c q p a =
     plan_reads t 16 (omega (arith, h.steps 4 2))
 
 -- ---- in words alone
-
-module _ {A : Type 0} where
-  -- the answer to any memory takes at most n words, where a search of the map reads at most w
-  abbrev pub Words : ℕ → Script A → ℕ → Type 0
-  Words w (read f x k) zero = ⊥
-  Words w (read f x k) (suc n) = (v : ℕ) → Words w (k v) n
-  Words w (first l x k) n = (w ≤ n) × ((v : ℕ) → Words w (k v) (n - w))
-  Words w (done a) n = Unit {0}
-  Words w (stop r) n = Unit {0}
-
-  pub words_few : (w i : ℕ) (s : Script A) (n : ℕ) → AtMost i s n → Words w s (n + i * w)
-  words_few w i (read f x k) zero h = absurd h
-  words_few w i (read f x k) (suc n) h = rw (suc-add n (i * w)) (λ v. words_few w i (k v) n (h v))
-  words_few w zero (first l x k) n h = absurd h
-  words_few w (suc i) (first l x k) n h =
-      let e : n + i * w ≡ n + suc i * w - w = omega (arith, suc-mul i w) in
-      (omega (arith, suc-mul i w), λ v. subst (Words w (k v)) e (words_few w i (k v) n (h v)))
-  words_few w i (done a) n h = tt
-  words_few w i (stop r) n h = tt
 
 pub deallocate_words : (n c q : ℕ) → Words map_words (deallocate_script n c q) 40
 deallocate_words n c q = words_few map_words 0 (deallocate_script n c q) 40 (deallocate_reads n c q)

@@ -1,8 +1,8 @@
 -- How many words each call reads at the most, on any memory, damaged or not, and how often it searches the map: at most once.
 -- Then the same in words alone, where a search of the map reads each word of the map at most once.
-use Rattle.std.specs.Prelude.{ℕ, ◌+◌, ◌≤◌, ◌≡◌, List, [], ◌∷◌}
-use Rattle.std.proofs.Common.{arith, subst}
-use Rattle.script.specs.Script.{over, AtMost, few_bind}
+use Rattle.std.specs.Prelude.{ℕ, zero, suc, ◌+◌, ◌-◌, ◌*◌, ◌≤◌, ◌≡◌, List, [], ◌∷◌}
+use Rattle.std.proofs.Common.{suc-add, suc-mul, arith, subst}
+use Rattle.script.specs.Script.{Script, read, first, done, stop, over, AtMost, few_bind}
 use Rattle.script.proofs.Script.{over_few, few_after}
 use Rattle.machine.specs.Machine.{map_words}
 use Rattle.chains.specs.Steps.{Step, leave, enter, step_script, steps_script}
@@ -49,6 +49,25 @@ few_elsewhere n c p m x s d a b = few_after 1 (see_taken n c p m) _ 12 4 (few_ta
     few_bind 0 (see_join n c (a + (s + b))) _ 4 0 (few_join n c (a + (s + b))) λ _. tt
 
 -- ---- in words alone
+
+module _ {A : Type 0} where
+  -- the answer to any memory takes at most n words, where a search of the map reads at most w
+  abbrev pub Words : ℕ → Script A → ℕ → Type 0
+  Words w (read f x k) zero = ⊥
+  Words w (read f x k) (suc n) = (v : ℕ) → Words w (k v) n
+  Words w (first l x k) n = (w ≤ n) × ((v : ℕ) → Words w (k v) (n - w))
+  Words w (done a) n = Unit {0}
+  Words w (stop r) n = Unit {0}
+
+  pub words_few : (w i : ℕ) (s : Script A) (n : ℕ) → AtMost i s n → Words w s (n + i * w)
+  words_few w i (read f x k) zero h = absurd h
+  words_few w i (read f x k) (suc n) h = rw (suc-add n (i * w)) (λ v. words_few w i (k v) n (h v))
+  words_few w zero (first l x k) n h = absurd h
+  words_few w (suc i) (first l x k) n h =
+      let e : n + i * w ≡ n + suc i * w - w = omega (arith, suc-mul i w) in
+      (omega (arith, suc-mul i w), λ v. subst (Words w (k v)) e (words_few w i (k v) n (h v)))
+  words_few w i (done a) n h = tt
+  words_few w i (stop r) n h = tt
 
 pub allocate_words : (n c p a : ℕ) → Words map_words (allocate_script n c p a) (18 + map_words)
 allocate_words n c p a = words_few map_words 1 (allocate_script n c p a) 18 (allocate_reads n c p a)

@@ -30,8 +30,8 @@ pub record Placed (n q p answer moved : ℕ) : Type 0 where
   pub to : answer + moved ≤ 2 * n
 
 pub record Resized (n c top most : ℕ) (m : Memory) (q p : ℕ) (t : Deed) : Type 0 where
-  bounded : Bounded n c top most m t
-  placed : Placed n q p t.answer t.moved
+  pub bounded : Bounded n c top most m t
+  pub placed : Placed n q p t.answer t.moved
 
 module _ (n c top most q p al : ℕ) (m : Memory) (good : Align al) where
   -- the block of the payload: s grains at x, with b free grains after it; the payload's place in it is d

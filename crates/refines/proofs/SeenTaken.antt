@@ -1,5 +1,5 @@
 -- What follows from specs/SeenTaken.antt.
-use Rattle.std.specs.Prelude.{ℕ, suc, ◌+◌, ◌-◌, ◌*◌, ◌≡◌, List, [], ◌∷◌}
+use Rattle.std.specs.Prelude.{ℕ, suc, ◌-◌, ◌*◌, ◌≡◌, List, [], ◌∷◌}
 use Rattle.std.proofs.Common.{arith, ◌∙◌, subst, inl}
 use Rattle.std.proofs.Math.Path.{refl}
 use Rattle.choice.specs.Choice.{eq_case}
@@ -7,11 +7,11 @@ use Rattle.bits.specs.First.{first_set}
 use Rattle.bits.proofs.First.{first_is}
 use Rattle.class.specs.Class.{list_of, start_of}
 use Rattle.definition.specs.Blocks.{free}
-use Rattle.definition.specs.Lists.{Lists, nothing, found, search}
+use Rattle.definition.specs.Lists.{Lists, found, search}
 use Rattle.definition.specs.Calls.{Heap, wanted, place, keeps}
 use Rattle.invariants.specs.Order.{BlockAt}
 use Rattle.invariants.specs.Members.{Mem}
-use Rattle.invariants.specs.Promises.{sought, search_empty}
+use Rattle.invariants.specs.Promises.{sought}
 use Rattle.invariants.proofs.Promises.{finds}
 use Rattle.script.specs.Memory.{Memory, Next, Prev, Mark}
 use Rattle.script.specs.Script.{unless_le, must_eq, Gives}
@@ -24,18 +24,13 @@ use Rattle.chains.proofs.Seen.{next_back}
 use Rattle.plans.specs.Checks.{must_be, must_free, see_free, see_rest}
 use Rattle.plans.specs.Allocate.{see_first, see_taken}
 use Rattle.armour.specs.Row.{Sound}
-use Rattle.refines.proofs.Seen.{gives_be, free_some, free_below, whole_gives, member_free, rest_gives}
+use Rattle.refines.specs.Seen.{gives_be, free_some, free_below, whole_gives, member_free, rest_gives}
 
 -- ---- the search of the map
 
 module _ (m : Memory) (f : Lists) (s : Strung m f) (i k : ℕ) where
-  -- an empty list is not marked
   unmarked : (j : ℕ) → f j ≡ [] → m Mark j ≡ 1 → ⊥
-  unmarked j e p = let z : m Mark j ≡ 0 = subst (Chain m j) e (s j) in omega arith
-
-  pub map_none : search f i k ≡ nothing → first_set (m Mark) i k ≡ k + i
-  map_none e = first_is (m Mark) i k (k + i) (omega arith) (omega arith)
-      (λ j a b. unmarked j (search_empty f i k e j a b)) (λ h. absurd (omega arith))
+  unmarked = Rattle.refines.specs.SeenTaken.unmarked m f s i k
 
   pub map_found : (j y : ℕ) → search f i k ≡ found j y → first_set (m Mark) i k ≡ j
   map_found j y e =

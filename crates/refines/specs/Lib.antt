@@ -2,7 +2,9 @@
 pub mod Sounds
 pub mod Seen
 pub mod SeenOwner
+pub mod SeenBeside
 pub mod SeenTaken
+pub mod Listed
 pub mod AllocateMeets
 pub mod DeallocateMeets
 pub mod Commute
