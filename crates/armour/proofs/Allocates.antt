@@ -13,8 +13,8 @@ use Rattle.invariants.specs.Order.{out, order_split, BlockAt, at_here, stands_at
 use Rattle.invariants.proofs.Order.{first_half, total_zip, at_whole, offset_at}
 use Rattle.invariants.specs.Moves.{occupy}
 use Rattle.invariants.proofs.Gaps.{gap_free, gap_used}
-use Rattle.invariants.specs.Placing.{Align, wanted_some}
-use Rattle.invariants.proofs.Placing.{align_pos, place_some, place_aligned, keeps_some, keeps_holds, place_inside, keeps_wanted}
+use Rattle.invariants.specs.Placing.{Align}
+use Rattle.invariants.proofs.Placing.{align_pos, place_some, place_aligned, keeps_some, keeps_holds, place_inside, keeps_wanted, wanted_some}
 use Rattle.invariants.proofs.Promises.{leave_here, leave_keeps, leave_only}
 use Rattle.script.specs.Memory.{Memory, Next, Prev, Mark, apply}
 use Rattle.script.specs.Script.{Gives}
@@ -26,8 +26,8 @@ use Rattle.tags.proofs.Stamped.{allocate_tagged}
 use Rattle.chains.specs.Closed.{Headed, Ready}
 use Rattle.chains.proofs.Closed.{ready_append}
 use Rattle.plans.specs.Deeds.{Plan, plan_of}
-use Rattle.plans.specs.Planned.{TakenChecked, taken_checked}
-use Rattle.plans.proofs.Planned.{plan_checked}
+use Rattle.plans.specs.Planned.{TakenChecked}
+use Rattle.plans.proofs.Planned.{plan_checked, taken_checked}
 use Rattle.plans.specs.Allocate.{Taken, taken_steps, allocate_deed, see_taken, allocate_script}
 use Rattle.armour.specs.Row.{Row, Free}
 use Rattle.armour.proofs.Listing.{listing_sane}

@@ -25,8 +25,8 @@ use Rattle.chains.specs.Closed.{Headed, Ready}
 use Rattle.chains.proofs.Closed.{ready_append}
 use Rattle.plans.specs.Deeds.{Plan, plan_of}
 use Rattle.plans.specs.Checks.{Owner, see_owner, see_guard, see_after, see_before, see_join}
-use Rattle.plans.specs.Checked.{GuardStands, join_checked}
-use Rattle.plans.proofs.Checked.{guard_checked}
+use Rattle.plans.specs.Checked.{GuardStands}
+use Rattle.plans.proofs.Checked.{guard_checked, join_checked}
 use Rattle.plans.proofs.Planned.{plan_checked}
 use Rattle.plans.specs.Deallocate.{leave_steps, beside_steps, join_steps, deallocate_deed, deallocate_script}
 use Rattle.armour.specs.Row.{Row, Free}

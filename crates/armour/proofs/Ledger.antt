@@ -12,8 +12,9 @@ use Rattle.script.specs.Memory.{Memory}
 use Rattle.sound.specs.Sound.{InTable, Given}
 use Rattle.sound.specs.Swaps.{Swaps}
 use Rattle.sound.proofs.Swaps.{owner_unique, used_place}
+use Rattle.plans.specs.Calls.{Deallocate}
 use Rattle.armour.specs.Dead.{NotLiveIn}
-use Rattle.armour.specs.Ledger.{Loan, In, strike, Backed, Once, Booked, HalfOf, Lies, Unlent}
+use Rattle.armour.specs.Ledger.{Loan, In, strike, book, Backed, Once, Booked, HalfOf, Lies, Unlent}
 
 -- ---- what follows: two loans share no half grain, and each lies in its block and inside the arena
 

@@ -32,8 +32,9 @@ use Rattle.armour.proofs.InPlace.{here, stay_turns, stay_defined, stretched, str
 use Rattle.armour.proofs.Elsewhere.{elsewhere_turns}
 use Rattle.armour.specs.Resizes.{Rests}
 use Rattle.armour.proofs.Resizes.{Both, Step, stays, stretches, lowers, moves, resize_known}
+use Rattle.armour.specs.Carried.{Carried}
 use Rattle.armour.proofs.Moved.{before_free, fits, down_carried, elsewhere_carried}
-use Rattle.armour.specs.Reallocates.{alone, other, kept, arrives, ReallocateArmoured, Turned}
+use Rattle.armour.specs.Reallocates.{alone, other, Payload, kept, arrives, ReallocateArmoured, Turned}
 
 -- ---- the used block of s grains between l and r
 

@@ -24,7 +24,7 @@ use Rattle.sound.specs.RegionTable.{first_of, end_of, Passed}
 use Rattle.chains.specs.Closed.{Headed}
 use Rattle.plans.specs.Deeds.{Plan}
 use Rattle.plans.specs.Checks.{see_head}
-use Rattle.plans.specs.Checked.{head_checked}
+use Rattle.plans.proofs.Checked.{head_checked}
 use Rattle.plans.proofs.Planned.{plan_checked, gives_one}
 use Rattle.plans.specs.Regions.{region_deed, see_pieces, region_script}
 use Rattle.armour.specs.Row.{Row, Free}

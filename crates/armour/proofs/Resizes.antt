@@ -14,8 +14,8 @@ use Rattle.script.proofs.Script.{inv_bind, inv_done}
 use Rattle.sound.proofs.Inverted.{inv_if_eq, inv_if_le}
 use Rattle.plans.specs.Deeds.{Deed}
 use Rattle.plans.specs.Checks.{see_after, see_before, see_rest, see_join}
-use Rattle.plans.specs.Checked.{rest_checked, join_checked}
-use Rattle.plans.specs.Planned.{taken_checked}
+use Rattle.plans.proofs.Checked.{rest_checked, join_checked}
+use Rattle.plans.proofs.Planned.{taken_checked}
 use Rattle.plans.specs.Allocate.{Taken, see_taken}
 use Rattle.plans.specs.Reallocate.{stay_deed, stretch_deed, down_deed, elsewhere_deed, elsewhere_script, down_script, move_script, stretch_script, resize_script}
 use Rattle.armour.specs.Row.{Row}

@@ -4,6 +4,7 @@ use Rattle.std.proofs.Common.{arith, sym, ◌∙◌, subst, ⊎_elim}
 use Rattle.definition.specs.Blocks.{Block}
 use Rattle.script.specs.Memory.{Memory}
 use Rattle.script.specs.Script.{Result, ok, no, run, Gives}
+use Rattle.tags.specs.Tag.{Tag}
 use Rattle.plans.specs.Deeds.{Plan}
 use Rattle.plans.specs.Calls.{Call, Allocate, Deallocate, Reallocate, Insert, Append, script_of, Fair}
 use Rattle.armour.specs.Row.{Row}

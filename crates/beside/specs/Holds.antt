@@ -5,8 +5,7 @@ use Rattle.script.specs.Memory.{Memory}
 use Rattle.script.specs.Script.{ok, run}
 use Rattle.machine.specs.Machine.{words, classes}
 use Rattle.plans.specs.Checks.{see_free, see_owner, see_after, see_before}
-use Rattle.plans.specs.Checked.{whole_checked}
-use Rattle.plans.proofs.Checked.{owner_checked}
+use Rattle.plans.proofs.Checked.{whole_checked, owner_checked}
 use Rattle.plans.proofs.StorableParts.{after_ready, before_ready}
 use Rattle.plans.proofs.StorableCalls.{owner_inside}
 use Rattle.lent.specs.Slices.{grains}

@@ -1,10 +1,11 @@
 -- What follows from specs/Conditions.antt.
-use Rattle.std.specs.Prelude.{ℕ, ◌+◌, ◌*◌, ◌≤◌, ◌<◌, ◌≡◌}
+use Rattle.std.specs.Prelude.{ℕ, ◌+◌, ◌*◌, ◌≤◌, ◌<◌, ◌≡◌, []}
 use Rattle.std.proofs.Common.{arith, ap, ◌∙◌, subst, ⊎_elim}
 use Rattle.choice.specs.Choice.{le?}
-use Rattle.definition.specs.Blocks.{used}
+use Rattle.class.specs.Class.{start_of}
+use Rattle.definition.specs.Blocks.{free, used}
 use Rattle.definition.specs.Units.{halves, multiple}
-use Rattle.definition.specs.Calls.{Heap}
+use Rattle.definition.specs.Calls.{Heap, wanted}
 use Rattle.invariants.specs.Order.{BlockAt}
 use Rattle.invariants.specs.NotLive.{NotLive}
 use Rattle.invariants.specs.Placing.{Align}
@@ -22,7 +23,7 @@ use Rattle.calls.specs.Refines.{Spare, behind_not_live}
 use Rattle.calls.proofs.Refines.{asks_fair}
 use Rattle.calls.proofs.Room.{room_or_full}
 use Rattle.calls.specs.One.{performs_one}
-use Rattle.calls.specs.Conditions.{refused_by, refused_in, live_inside}
+use Rattle.calls.specs.Conditions.{refused_by, refused_in, NoList, live_inside}
 
 -- ---- never 5
 

@@ -1,9 +1,9 @@
 -- What follows from specs/Damage.antt.
-use Rattle.std.specs.Prelude.{ℕ, ◌≡◌}
+use Rattle.std.specs.Prelude.{ℕ, ◌/◌, ◌≡◌}
 use Rattle.std.proofs.Common.{sym, ◌∙◌, subst}
 use Rattle.definition.specs.Units.{halves, multiple}
 use Rattle.script.specs.Script.{ok}
-use Rattle.script.specs.Locality.{DiffersIn, Contained}
+use Rattle.script.specs.Locality.{Reads, DiffersIn, Contained}
 use Rattle.sound.specs.Plans.{Plan}
 use Rattle.sound.specs.Calls.{Call, Resize, script_of}
 use Rattle.sound.proofs.Calls.{damage_stays}
@@ -11,6 +11,7 @@ use Rattle.sound.specs.Runs.{Reply}
 use Rattle.slices.proofs.Decode.{grains_keep}
 use Rattle.slices.specs.Slices.{Slices, memory_of, AllValid}
 use Rattle.slices.specs.Kept.{Lengths}
+use Rattle.carry.specs.Differs.{SameBytes}
 use Rattle.carry.proofs.Differs.{stores_differs, carried_differs}
 use Rattle.calls.specs.Bytes.{ByteCall, allocate, deallocate, reallocate, insert, append, Asks, take, back, resize, give, follow}
 use Rattle.calls.specs.Performs.{Long, Inside, grains_of, most_of, outcome, Early, short, outside, Goes, stored, Performs, early, refused, granted}

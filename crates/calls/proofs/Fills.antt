@@ -12,6 +12,7 @@ use Rattle.sound.proofs.Filled.{filled_sound}
 use Rattle.slices.proofs.Decode.{grains_keep}
 use Rattle.slices.specs.Slices.{Slices, memory_of}
 use Rattle.slices.specs.Kept.{Lengths}
+use Rattle.carry.specs.Alike.{SameTables}
 use Rattle.carry.specs.Words.{word}
 use Rattle.carry.proofs.Words.{field_word}
 use Rattle.calls.specs.Performs.{grains_of, Stand}

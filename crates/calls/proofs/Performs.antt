@@ -1,12 +1,14 @@
 -- What follows from specs/Performs.antt.
-use Rattle.std.specs.Prelude.{◌≡◌, refl}
+use Rattle.std.specs.Prelude.{ℕ, ◌≡◌, refl}
+use Rattle.script.specs.Script.{no}
 use Rattle.sound.specs.Plans.{Plan}
 use Rattle.sound.specs.Calls.{Call, Take, Return, Resize, Give, Append}
+use Rattle.sound.specs.Runs.{not}
 use Rattle.slices.specs.Slices.{Slices, stores}
 use Rattle.slices.specs.Kept.{Lengths}
 use Rattle.slices.proofs.Kept.{stores_lengths}
 use Rattle.carry.proofs.Carry.{carried_lengths, carried_tables}
-use Rattle.calls.specs.Performs.{stored}
+use Rattle.calls.specs.Performs.{outcome, Goes, stored, Performs, refused}
 
 -- it keeps all lengths
 pub stored_lengths : (S : Slices) (K : Call) (p : Plan) → Lengths S (stored S K p)

@@ -1,9 +1,10 @@
 -- What follows from specs/Refines.antt.
-use Rattle.std.specs.Prelude.{ℕ, ◌≡◌, List}
+use Rattle.std.specs.Prelude.{ℕ, ◌<◌, ◌≡◌, List}
 use Rattle.std.proofs.Common.{arith, ap, sym, ◌∙◌, subst}
 use Rattle.definition.specs.Calls.{Heap, Answer}
+use Rattle.invariants.specs.NotLive.{NotLive}
 use Rattle.invariants.proofs.NotLive.{not_live_back, not_live_resize}
-use Rattle.script.specs.Memory.{Write}
+use Rattle.script.specs.Memory.{Memory, Write}
 use Rattle.script.specs.Script.{Result, ok, no}
 use Rattle.sound.specs.Plans.{Plan}
 use Rattle.sound.specs.Sound.{Sound}

@@ -1,5 +1,5 @@
 -- What follows from specs/Storable.antt.
-use Rattle.std.specs.Prelude.{ℕ, ◌≡◌, List}
+use Rattle.std.specs.Prelude.{ℕ, ◌≤◌, ◌≡◌, List, length}
 use Rattle.std.proofs.Common.{arith, sym, subst}
 use Rattle.script.specs.Memory.{Table, Write}
 use Rattle.script.specs.Script.{ok}

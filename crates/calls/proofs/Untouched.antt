@@ -12,7 +12,7 @@ use Rattle.sound.proofs.Payloads.{call_spares}
 use Rattle.script.specs.Script.{ok, no}
 use Rattle.slices.specs.Slices.{Slices, memory_of, stores}
 use Rattle.slices.proofs.Kept.{stores_byte}
-use Rattle.calls.specs.Bytes.{ByteCall, Asks, take, back, resize, give, follow}
+use Rattle.calls.specs.Bytes.{ByteCall, deallocate, Asks, take, back, resize, give, follow}
 use Rattle.calls.proofs.Bytes.{stands_offset}
 use Rattle.calls.specs.Performs.{grains_of, most_of, outcome, stored, Performs, early, refused, granted, Stand}
 use Rattle.calls.specs.Payload.{InPayloadBytes}

@@ -12,7 +12,8 @@ use Rattle.invariants.specs.Order.{BlockAt}
 use Rattle.invariants.specs.Cramped.{Cramped}
 use Rattle.invariants.specs.Placing.{Align}
 use Rattle.invariants.proofs.Placing.{align_pos}
-use Rattle.invariants.specs.Promises.{refused_exactly, good_fit}
+use Rattle.invariants.specs.Promises.{refused_exactly}
+use Rattle.invariants.proofs.Promises.{good_fit}
 use Rattle.script.specs.Script.{no}
 use Rattle.sound.proofs.LiveResize.{live_resize_refused_exactly}
 use Rattle.sound.specs.Calls.{Call, Take, Resize}

@@ -1,6 +1,6 @@
 -- T7 in bytes: on slices that stand for a heap no byte of a live payload changes, by any call, but of the payload that is
 -- given back or resized.
-use Rattle.std.specs.Prelude.{ℕ, ◌*◌, ◌≡◌}
+use Rattle.std.specs.Prelude.{ℕ, ◌+◌, ◌*◌, ◌≡◌}
 use Rattle.calls.specs.Bytes.{ByteCall, allocate, deallocate, reallocate, insert, append}
 
 -- the call doesn't give back or resize the payload at v, counted in half grains

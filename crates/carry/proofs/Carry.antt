@@ -1,7 +1,8 @@
 -- What follows from specs/Carry.antt.
-use Rattle.std.specs.Prelude.{ℕ, ◌*◌, ◌≡◌, refl, List, ◌++◌, length, get_or, take, drop}
+use Rattle.std.specs.Prelude.{ℕ, ◌+◌, ◌*◌, ◌≡◌, refl, List, ◌++◌, length, get_or, take, drop}
 use Rattle.std.proofs.Common.{arith, ap, sym, ◌∙◌, subst, take-append-drop, take_at, drop_at}
-use Rattle.copy.specs.Moved.{Moved, moved_kept, moved_length, moved_none, moved_nowhere, moved_only}
+use Rattle.word.specs.Number.{Apart}
+use Rattle.copy.specs.Moved.{Moved, moved, moved_kept, moved_length, moved_none, moved_nowhere, moved_only}
 use Rattle.script.specs.Memory.{Write}
 use Rattle.sound.specs.Plans.{Plan}
 use Rattle.slices.specs.Slices.{Slices, with_arena, stores}

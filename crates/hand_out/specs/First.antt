@@ -12,7 +12,7 @@ use Rattle.machine.specs.Machine.{piece}
 use Rattle.lent.specs.Slices.{grains, memory_of, tag_words, next_at, prev_at}
 use Rattle.lent.proofs.TagWords.{count_fits}
 use Rattle.plans.specs.Checks.{must_free, must_be, see_free}
-use Rattle.plans.specs.Checked.{whole_checked}
+use Rattle.plans.proofs.Checked.{whole_checked}
 use Rattle.plans.specs.Allocate.{see_first}
 use Rattle.entries.specs.Answers.{held, answer, told}
 use Rattle.entries.specs.declared.Found.TheVariants.{Grains, Bad}

@@ -8,8 +8,7 @@ use Rattle.bits.specs.Map.{map_bit}
 use Rattle.class.specs.Class.{list_of, start_of}
 use Rattle.class.proofs.Class.{start_fits, start_large}
 use Rattle.definition.specs.Calls.{wanted, place, keeps}
-use Rattle.invariants.specs.Placing.{wanted_some}
-use Rattle.invariants.proofs.Placing.{keeps_wanted}
+use Rattle.invariants.proofs.Placing.{keeps_wanted, wanted_some}
 use Rattle.script.specs.Memory.{Memory, Mark}
 use Rattle.script.specs.Script.{Script, ok, no, done, run, ◌>>=◌, get, unless_le, ◌>>◌}
 use Rattle.script.proofs.Script.{searches, reads, goes, halts, gives_done, gives_le, halts_le}

@@ -11,10 +11,9 @@ use Rattle.machine.specs.Machine.{words, classes}
 use Rattle.tags.proofs.Within.{allocate_field}
 use Rattle.plans.specs.Allocate.{Taken, taken_steps, allocate_deed, see_taken, allocate_script}
 use Rattle.plans.specs.Deeds.{plan_of}
-use Rattle.plans.specs.Planned.{taken_checked}
-use Rattle.plans.proofs.Planned.{plan_gives}
-use Rattle.plans.specs.StorableParts.{size_short}
-use Rattle.plans.specs.StorableCalls.{taken_fits, taken_ready}
+use Rattle.plans.proofs.Planned.{plan_gives, taken_checked}
+use Rattle.plans.proofs.StorableParts.{size_short}
+use Rattle.plans.proofs.StorableCalls.{taken_fits, taken_ready}
 use Rattle.lent.specs.Slices.{grains}
 use Rattle.lent.proofs.Shown.{grains_below}
 use Rattle.stamps.specs.Bounds.{CanAllocate}

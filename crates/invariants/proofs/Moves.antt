@@ -3,11 +3,11 @@ use Rattle.std.specs.Prelude.{ℕ, ◌+◌, ◌≤◌, ◌<◌, ◌≡◌, refl,
 use Rattle.std.proofs.Common.{arith, sym, subst, inl, inr}
 use Rattle.definition.specs.Blocks.{Block, free, used, last, gap, ◌⟨⟩◌}
 use Rattle.definition.specs.Lists.{Lists}
-use Rattle.invariants.specs.Order.{out, side_l, Inside, BlockAt, LeftAt, used_fits, Apart, same, before, behind}
+use Rattle.invariants.specs.Order.{out, busy, side_l, Fits, Inside, Ordered, BlockAt, LeftAt, used_fits, Apart, same, before, behind}
 use Rattle.invariants.proofs.Order.{apart, at_whole}
 use Rattle.invariants.specs.Members.{Mem}
 use Rattle.invariants.specs.Pieces.{pieces, pieces_behind, Listed}
-use Rattle.invariants.specs.Moves.{Sane, free_used, recast}
+use Rattle.invariants.specs.Moves.{Sane, free_used, occupy, vacate, recast}
 
 pub free_last_lem : {t : ℕ} → last ≡ free t → ⊥
 free_last_lem e = let z : ◌≡◌ {A = ℕ} 0 1 = cc in omega arith

@@ -3,7 +3,7 @@ use Rattle.std.specs.Prelude.{ℕ, ◌+◌, ◌*◌, ◌≤◌, ◌<◌, ◌≡�
 use Rattle.std.proofs.Common.{arith, ap, sym, ◌∙◌, subst, inl, inr}
 use Rattle.choice.specs.Choice.{eq_yes, eq_no}
 use Rattle.definition.specs.Blocks.{Block, free, used, last, gap, size, total, ◌⟨⟩◌, find, offset, payload}
-use Rattle.invariants.specs.Order.{Side, out, side, Inside, Whole, Ordered, OrderedL, some, order_split, BlockAt, at_low, Apart, same, before, behind, Unlike}
+use Rattle.invariants.specs.Order.{Side, out, idle, side, Fits, Inside, Whole, Ordered, OrderedL, some, order_split, BlockAt, at_low, Apart, same, before, behind, Unlike}
 
 pub first_half : {s : ℕ} → 1 ≤ s → Inside s 1
 first_half h = record { some = omega arith; within = omega arith; kind = inl refl }

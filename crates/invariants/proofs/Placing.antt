@@ -65,3 +65,7 @@ keeps_wanted a x p h = omega (arith, place_most a x h)
 -- as code counts it, for the compiler to see that it is not 0
 pub wanted_counted : (p a : ℕ) → 0 < a → (p + a - 1) / 2 + 1 ≡ wanted p a
 wanted_counted p a h = omega arith
+
+-- something is looked for
+pub wanted_some : (p a : ℕ) → 0 < a → 1 ≤ wanted p a
+wanted_some p a h = omega arith

@@ -1,23 +1,24 @@
 -- What follows from specs/Promises.antt.
-use Rattle.std.specs.Prelude.{ℕ, zero, suc, ◌+◌, ◌-◌, ◌*◌, ◌≤◌, ◌≡◌, refl, List, [], ◌∷◌, ◌⊎◌}
+use Rattle.std.specs.Prelude.{ℕ, zero, suc, ◌+◌, ◌-◌, ◌*◌, ◌≤◌, ◌<◌, ◌≡◌, refl, List, [], ◌∷◌, ◌⊎◌}
 use Rattle.std.proofs.Common.{arith, ap, sym, ◌∙◌, inl, inr, ⊎_elim}
 use Rattle.std.proofs.Math.Path.{subst}
 use Rattle.choice.specs.Choice.{eq_case, same?}
 use Rattle.class.specs.Class.{list_of, start_of}
-use Rattle.class.proofs.Class.{start_fits}
+use Rattle.class.proofs.Class.{list_small, start_fits, good_fit as looked_at}
 use Rattle.definition.specs.Blocks.{Block, free, used, total, ◌⟨⟩◌, Place, find, offset, room, past}
 use Rattle.definition.specs.Lists.{Lists, drop, Found, nothing, found, head_or, search}
-use Rattle.definition.specs.Calls.{Heap, granted, wanted, place, keeps, leave, take_at, take}
+use Rattle.definition.specs.Calls.{Heap, no_list, refused, granted, wanted, place, keeps, leave, take_at, take}
 use Rattle.invariants.specs.Order.{order_split, BlockAt, at_here, stands_at, Apart, same, before, behind}
 use Rattle.invariants.proofs.Order.{first_half, offset_at, apart}
 use Rattle.invariants.specs.Members.{Mem}
+use Rattle.invariants.proofs.Pieces.{free_listed}
 use Rattle.invariants.specs.Moves.{Sane, Ok, occupy}
 use Rattle.invariants.proofs.Neighbours.{leave_ok}
-use Rattle.invariants.specs.Placing.{Align, wanted_some}
-use Rattle.invariants.proofs.Placing.{align_pos, place_aligned, place_some, place_inside, keeps_holds, keeps_some, keeps_wanted}
+use Rattle.invariants.specs.Placing.{Align}
+use Rattle.invariants.proofs.Placing.{align_pos, place_aligned, place_some, place_inside, keeps_holds, keeps_some, keeps_wanted, wanted_some}
 use Rattle.invariants.specs.Kept.{Solid}
 use Rattle.invariants.proofs.Kept.{kept_take, kept_take_back, kept_take_split, kept_take_split_back}
-use Rattle.invariants.specs.Promises.{Finds, Took, sought, Granted}
+use Rattle.invariants.specs.Promises.{Finds, Took, sought, refused_exactly, Granted}
 
 -- ---- the search
 
@@ -78,6 +79,19 @@ take_found c h p a k y o al e =
     let g = o.exact.there k y m in
     let st = stands_at y (free g.0) h.blocks g.1 in
     took c h p a k y g.0 st.before st.behind o al e fd.low st.whole st.place g.2
+
+-- ---- T9: good fit
+
+-- never while some free block has 17/16 of the grains looked for
+pub good_fit : (c : ℕ) (h : Heap) (p a y s : ℕ) → Ok c h → 0 < a → BlockAt y (free s) 0 h.blocks → 17 * wanted p a ≤ 16 * s
+    → take c h p a ≡ refused no_list → ⊥
+good_fit c h p a y s o q b g e =
+    let st = stands_at y (free s) h.blocks b in
+    let os : Sane c (st.before ⟨⟩ free s ∷ st.behind) h.lists = rw st.whole at o in
+    let i = order_split st.before (free s ∷ st.behind) os.order in
+    let lt = free_listed c st.before st.behind s i.1.2 os.short in
+    let em : h.lists (list_of s) ≡ [] = (refused_exactly c h p a).0 e (list_of s) (looked_at (wanted p a) s (wanted_some p a q) g) (list_small s i.1.1 c lt) in
+    subst (Mem y) em (o.exact.listed y s b)
 
 -- ---- T7: what is granted
 

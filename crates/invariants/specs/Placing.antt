@@ -2,7 +2,7 @@
 -- behind the header, inside the block, and never more than was looked for.
 use Rattle.std.specs.Prelude.{ℕ, ◌+◌, ◌-◌, ◌*◌, ◌%◌, ◌≤◌, ◌<◌, ◌≡◌, ◌⊎◌}
 use Rattle.std.proofs.Common.{div-mul-le_self, arith}
-use Rattle.definition.specs.Calls.{wanted, place}
+use Rattle.definition.specs.Calls.{place}
 
 -- an alignment, in half grains: one, or even
 abbrev pub Align : ℕ → Type 0
@@ -13,9 +13,3 @@ Align a = (a ≡ 1) ⊎ ((0 < a) × (a % 2 ≡ 0))
 -- at most the alignment further
 pub place_most : (a x : ℕ) → 0 < a → place a x ≤ a
 place_most a x h = omega (arith, div-mul-le_self (2 * x + 1 + (a - 1)) a)
-
--- ---- what the block keeps
-
--- something is looked for
-pub wanted_some : (p a : ℕ) → 0 < a → 1 ≤ wanted p a
-wanted_some p a h = omega arith

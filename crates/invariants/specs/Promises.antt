@@ -2,18 +2,13 @@
 -- free block has 17/16 of what it looks for. What it grants is aligned, long enough, and was free; all blocks in use stay.
 use Rattle.std.specs.Prelude.{ℕ, zero, suc, ◌+◌, ◌-◌, ◌*◌, ◌%◌, ◌≤◌, ◌<◌, ◌≡◌, refl, List, [], ◌∷◌, ◌⊎◌}
 use Rattle.std.proofs.Common.{arith, ap, ◌∙◌, ⊎_elim}
-use Rattle.std.proofs.Math.Path.{subst}
 use Rattle.choice.specs.Choice.{same?}
 use Rattle.class.specs.Class.{list_of, start_of}
-use Rattle.class.proofs.Class.{list_small, good_fit as looked_at}
 use Rattle.definition.specs.Blocks.{Block, free, used, total, ◌⟨⟩◌}
 use Rattle.definition.specs.Lists.{Lists, drop, Found, nothing, found, head_or, search}
 use Rattle.definition.specs.Calls.{Heap, no_list, refused, granted, wanted, place, keeps, leave, take_at, take}
-use Rattle.invariants.specs.Order.{order_split, BlockAt, stands_at}
-use Rattle.invariants.specs.Members.{Mem}
-use Rattle.invariants.specs.Pieces.{free_listed}
-use Rattle.invariants.specs.Moves.{Sane, Ok}
-use Rattle.invariants.specs.Placing.{wanted_some}
+use Rattle.invariants.specs.Order.{BlockAt}
+use Rattle.invariants.specs.Moves.{Ok}
 use Rattle.invariants.specs.Kept.{Solid}
 
 -- ---- the search
@@ -80,19 +75,6 @@ refused_exactly c h p a =
       (λ e j u v. search_empty h.lists (16 * c - k) k (none_found h p a (sought c h p a) e) j u (omega arith)),
       (λ g. ap (take_at h p a) (search_none h.lists (16 * c - k) k (λ j u v. g j u (omega arith)))),
     )
-
--- ---- T9: good fit
-
--- never while some free block has 17/16 of the grains looked for
-pub good_fit : (c : ℕ) (h : Heap) (p a y s : ℕ) → Ok c h → 0 < a → BlockAt y (free s) 0 h.blocks → 17 * wanted p a ≤ 16 * s
-    → take c h p a ≡ refused no_list → ⊥
-good_fit c h p a y s o q b g e =
-    let st = stands_at y (free s) h.blocks b in
-    let os : Sane c (st.before ⟨⟩ free s ∷ st.behind) h.lists = rw st.whole at o in
-    let i = order_split st.before (free s ∷ st.behind) os.order in
-    let lt = free_listed c st.before st.behind s i.1.2 os.short in
-    let em : h.lists (list_of s) ≡ [] = (refused_exactly c h p a).0 e (list_of s) (looked_at (wanted p a) s (wanted_some p a q) g) (list_small s i.1.1 c lt) in
-    subst (Mem y) em (o.exact.listed y s b)
 
 -- ---- T7: what is granted
 

@@ -1,6 +1,6 @@
 -- What a resize of a live payload grants: the payload is long enough, stands where it was or at a multiple of its
 -- alignment, and its block shares no grain with another. Every other block that is not free stays.
-use Rattle.std.specs.Prelude.{ℕ, ◌+◌, ◌*◌, ◌%◌, ◌≤◌, ◌≡◌, ◌⊎◌}
+use Rattle.std.specs.Prelude.{ℕ, ◌+◌, ◌*◌, ◌%◌, ◌≤◌, ◌<◌, ◌≡◌, ◌⊎◌}
 use Rattle.definition.specs.Blocks.{Block, used}
 use Rattle.definition.specs.Calls.{Heap, place}
 use Rattle.invariants.specs.Order.{BlockAt}

@@ -6,6 +6,7 @@ use Rattle.script.proofs.Script.{ends_bind, ends_any}
 use Rattle.tags.proofs.Within.{deallocate_length}
 use Rattle.plans.specs.Deeds.{Plan, writes}
 use Rattle.plans.specs.Checks.{see_guard, see_owner, see_after, see_before, see_join}
+use Rattle.plans.specs.Allocate.{allocate_deed, allocate_script}
 use Rattle.plans.specs.Deallocate.{deallocate_deed, deallocate_script}
 use Rattle.plans.specs.Reallocate.{resize_script, reallocate_script}
 use Rattle.plans.specs.Costs.{Small}

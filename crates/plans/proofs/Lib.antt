@@ -8,4 +8,5 @@ pub mod Planned
 pub mod StorableCalls
 pub mod StorableParts
 pub mod StorableRegion
+pub mod StorableElsewhere
 pub mod StorableResize

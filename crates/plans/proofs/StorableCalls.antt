@@ -1,28 +1,73 @@
--- What follows from specs/StorableCalls.antt.
+-- allocate and deallocate write only what can be stored, on any memory that a decoder may show; and what allocate hands out
+-- is inside the arena.
 use Rattle.std.specs.Prelude.{ℕ, ◌+◌, ◌-◌, ◌*◌, ◌^◌, ◌≤◌, ◌<◌}
 use Rattle.std.proofs.Common.{arith, inl, inr}
 use Rattle.std.proofs.Math.Path.{subst}
 use mathlib.Core.List.{[]}
+use Rattle.bits.proofs.First.{first_from}
+use Rattle.class.specs.Class.{list_of, start_of}
+use Rattle.class.proofs.Class.{start_fits}
+use Rattle.definition.specs.Calls.{wanted, place, keeps}
 use Rattle.invariants.specs.Order.{Inside}
 use Rattle.invariants.specs.Placing.{Align}
-use Rattle.script.specs.Memory.{Memory}
+use Rattle.invariants.proofs.Placing.{align_pos, place_some, place_inside, keeps_holds, keeps_some, keeps_wanted, wanted_some}
+use Rattle.script.specs.Memory.{Memory, Mark}
 use Rattle.script.specs.Script.{◌>>=◌, ◌>>◌, Gives}
 use Rattle.script.proofs.Script.{inv_bind}
 use Rattle.tags.specs.Each.{Each}
 use Rattle.tags.specs.Writes.{deallocate_tags}
+use Rattle.tags.proofs.Within.{allocate_field, allocate_within, deallocate_field, deallocate_within}
 use Rattle.chains.specs.Closed.{Ready}
 use Rattle.chains.proofs.Closed.{ready_append}
 use Rattle.plans.specs.Deeds.{Plan, plan_script, writes}
 use Rattle.plans.specs.Checks.{Owner, see_owner, see_guard, see_after, see_before, see_join}
 use Rattle.plans.proofs.Checked.{Owns, small, large, wide, OwnerChecked, owner_checked}
-use Rattle.plans.specs.Planned.{taken_checked}
-use Rattle.plans.proofs.Planned.{plan_checked}
-use Rattle.plans.specs.Allocate.{taken_steps, allocate_deed, see_taken, allocate_script}
+use Rattle.plans.specs.Planned.{TakenChecked}
+use Rattle.plans.proofs.Planned.{plan_checked, taken_checked}
+use Rattle.plans.specs.Allocate.{Taken, taken_steps, taken_tags, allocate_deed, see_taken, allocate_script}
 use Rattle.plans.specs.Deallocate.{leave_steps, beside_steps, join_steps, deallocate_deed, deallocate_script}
 use Rattle.plans.specs.Storable.{Shows, Storable}
-use Rattle.plans.specs.StorableParts.{bounds, Bounded, beside_ready, join_ready}
-use Rattle.plans.proofs.StorableParts.{deed_storable, after_ready, before_ready}
-use Rattle.plans.specs.StorableCalls.{taken_inside, taken_ready, taken_tags_lem}
+use Rattle.plans.specs.StorableParts.{bounds, Bounded}
+use Rattle.plans.proofs.StorableParts.{deed_storable, tags_storable, size_short, after_ready, before_ready, beside_ready, rest_steps_lem, join_ready}
+
+-- ---- the block that is handed out
+
+module _ (n c p a : ℕ) (m : Memory) (good : Align a) (t : Taken) (i : TakenChecked n c p a m t) where
+  -- it is long enough
+  pub taken_fits : keeps (place a t.block) p ≤ t.grains
+  taken_fits =
+      let u = start_of (wanted p a) in
+      let z = align_pos a good in
+      omega (
+        arith,
+        keeps_wanted a t.block p z,
+        start_fits (wanted p a) t.grains (wanted_some p a z) i.whole.starts.some (omega (arith, i.class, i.first, first_from (m Mark) (16 * c - u) u)),
+      )
+
+  -- so the payload is inside the arena
+  pub taken_inside : 2 * t.block + place a t.block + p ≤ 2 * n
+  taken_inside = omega (arith, taken_fits, keeps_holds (place a t.block) p, i.whole.ends)
+
+  kept_some : 1 ≤ keeps (place a t.block) p
+  kept_some = keeps_some (place a t.block) p (place_some a t.block (align_pos a good))
+
+  list_below : list_of t.grains < 16 * c
+  list_below = omega (arith, i.class, i.small)
+
+  module _ (top : ℕ) where
+    pub taken_ready : Ready (bounds n c top) m (taken_steps p a t)
+    taken_ready = (
+      (i.small, i.next.1.inside, omega (arith, i.alone, i.whole.starts.inside)),
+      rest_steps_lem n c top m t.block t.grains (keeps (place a t.block) p) kept_some taken_fits i.whole.ends list_below i.rest,
+    )
+
+    pub taken_tags_lem : (most : ℕ) → Each (Storable n c top most) (taken_tags p a t)
+    taken_tags_lem most =
+        let y = t.block in
+        let s = t.grains in
+        let d = place a y in
+        tags_storable n c top most y s (taken_tags p a t) (omega (arith, i.whole.ends)) (size_short c s i.whole.starts.some list_below)
+        (allocate_field y s (keeps d p) d) (allocate_within y s (keeps d p) d kept_some taken_fits (place_inside a y p good))
 
 -- ---- allocate
 
@@ -59,8 +104,8 @@ owner_inside m n q o h = go h.kind
 -- ---- deallocate: a block of s grains at x, and its neighbours, become one free block
 
 module _ (n c top most x s d a b : ℕ) (p : 1 ≤ s) (i : Inside s d) (l : x + s + b < n) (q : a ≤ x) (h : a + (s + b) < 2 ^ c) where
-  freed_tags : Each (Storable n c top most) (deallocate_tags x s d a b)
-  freed_tags = Rattle.plans.specs.StorableCalls.freed_tags n c top most x s d a b p i l q h
+  pub freed_tags : Each (Storable n c top most) (deallocate_tags x s d a b)
+  freed_tags = tags_storable n c top most (x - a) (a + (s + b)) (deallocate_tags x s d a b) (omega arith) h (deallocate_field x s d a b) (deallocate_within x s d a b p i q)
 
   deallocate_bounded : (m : Memory) → Ready (bounds n c top) m (leave_steps b (x + s)) → Ready (bounds n c top) m (leave_steps a (x - a)) → Ready (bounds n c top) m (join_steps x s a b)
       → Bounded n c top most m (deallocate_deed x s d a b)

@@ -22,12 +22,12 @@ use Rattle.chains.specs.Closed.{Headed, Ready}
 use Rattle.chains.proofs.Closed.{ready_append}
 use Rattle.plans.specs.Deeds.{Plan, writes}
 use Rattle.plans.specs.Checks.{see_head}
-use Rattle.plans.specs.Checked.{head_checked}
+use Rattle.plans.proofs.Checked.{head_checked}
 use Rattle.plans.proofs.Planned.{plan_checked}
 use Rattle.plans.specs.Regions.{piece_size, lay_tags, lay_steps, lay_over, region_deed, see_pieces, region_script}
 use Rattle.plans.specs.Storable.{Shows, Storable, at_tag, at_table}
-use Rattle.plans.specs.StorableParts.{bounds, Bounded, headed}
-use Rattle.plans.proofs.StorableParts.{deed_storable}
+use Rattle.plans.specs.StorableParts.{bounds, Bounded}
+use Rattle.plans.proofs.StorableParts.{deed_storable, headed}
 
 -- ---- the pieces
 

@@ -18,24 +18,25 @@ use Rattle.tags.proofs.Within.{stretch_field, stretch_within, down_field, down_w
 use Rattle.chains.specs.Closed.{Ready}
 use Rattle.chains.proofs.Closed.{ready_append}
 use Rattle.plans.specs.Deeds.{Deed, Plan, plan_of, writes}
-use Rattle.plans.specs.Checks.{see_owner, see_guard, see_after, see_before, see_rest}
+use Rattle.plans.specs.Checks.{see_owner, see_guard, see_after, see_before, see_rest, see_join}
 use Rattle.plans.proofs.Checked.{owner_checked}
 use Rattle.plans.proofs.Planned.{plan_checked}
 use Rattle.plans.specs.Allocate.{rest_steps}
 use Rattle.plans.specs.Deallocate.{leave_steps, beside_steps}
 use Rattle.plans.specs.Reallocate.{stretch_deed, down_deed, elsewhere_script, down_script, move_script, stretch_script, resize_script, reallocate_script}
 use Rattle.plans.specs.Storable.{Shows, Storable}
-use Rattle.plans.specs.StorableParts.{bounds, tags_storable, beside_ready}
-use Rattle.plans.proofs.StorableParts.{deed_storable, after_ready, before_ready, rest_ready}
+use Rattle.plans.specs.StorableParts.{bounds}
+use Rattle.plans.proofs.StorableParts.{deed_storable, tags_storable, after_ready, before_ready, beside_ready, rest_ready}
 use Rattle.plans.proofs.StorableCalls.{owner_inside}
-use Rattle.plans.specs.StorableResize.{Placed, Resized}
+use Rattle.plans.specs.StorableResize.{Placed}
+use Rattle.plans.proofs.StorableElsewhere.{Resized}
 
 module _ (n c top most q p al : ℕ) (m : Memory) (good : Align al) where
   -- the block of the payload: s grains at x, with b free grains after it; the payload's place in it is d
   module _ (x s d b : ℕ) (at : 2 * x + d ≡ q) (some : 1 ≤ s) (i : Inside s d) (end : x + s + b < n) (ub : Ready (bounds n c top) m (leave_steps b (x + s))) where
     elsewhere_bounded : (a : ℕ) (t : Deed) → 2 * s < d + p → a ≤ x → Ready (bounds n c top) m (leave_steps a (x - a)) → Gives m (elsewhere_script n c p al x s d a b) t
         → Resized n c top most m q p t
-    elsewhere_bounded = Rattle.plans.specs.StorableResize.elsewhere_bounded n c top most q p al m good x s d b at some i end ub
+    elsewhere_bounded = Rattle.plans.proofs.StorableElsewhere.elsewhere_bounded n c top most q p al m good x s d b at some i end ub
 
     -- 3: down
     down_bounded : (a : ℕ) (t : Deed) → 2 * s < d + p → a ≤ x → Ready (bounds n c top) m (leave_steps a (x - a)) → Gives m (down_script n c p al x s d a b) t

@@ -9,10 +9,7 @@ pub mod Calls
 pub mod Checked
 pub mod Planned
 pub mod Costs
-pub mod FewChecks
-pub mod Few
 pub mod Lengths
 pub mod Storable
 pub mod StorableParts
-pub mod StorableCalls
 pub mod StorableResize

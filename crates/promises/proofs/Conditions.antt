@@ -8,14 +8,15 @@ use Rattle.definition.specs.Units.{halves, multiple}
 use Rattle.definition.specs.Calls.{Heap, no_list, not_live, no_region, Answer, refused, granted, wanted}
 use Rattle.invariants.specs.Order.{BlockAt}
 use Rattle.invariants.proofs.Placing.{align_pos}
-use Rattle.invariants.specs.Promises.{refused_exactly, good_fit}
+use Rattle.invariants.specs.Promises.{refused_exactly}
+use Rattle.invariants.proofs.Promises.{good_fit}
 use Rattle.script.specs.Script.{no}
 use Rattle.request.specs.Asked.{InRange}
 use Rattle.machine.specs.Machine.{half, classes}
 use Rattle.plans.specs.Calls.{Call, Allocate}
-use Rattle.refines.specs.Seen.{sound_ok}
+use Rattle.refines.proofs.Seen.{sound_ok}
 use Rattle.refines.specs.Calls.{answer_of}
-use Rattle.refines.specs.Calls.{allocate_refused_exactly as script_refused_exactly}
+use Rattle.refines.proofs.Calls.{allocate_refused_exactly as script_refused_exactly}
 use Rattle.refines.specs.Runs.{Reply, not, Model, reply, said, asks, answers}
 use Rattle.lent.specs.Slices.{Slices, memory_of}
 use Rattle.promises.specs.Bytes.{ByteCall, allocate, range, between, resize_range, resize_unsuited, resize_between, take}

@@ -22,9 +22,9 @@ use Rattle.plans.proofs.Checked.{owner_checked}
 use Rattle.plans.proofs.StorableCalls.{allocate_inside, owner_inside}
 use Rattle.plans.specs.StorableResize.{Placed}
 use Rattle.plans.proofs.StorableResize.{reallocate_placed}
-use Rattle.refines.specs.Seen.{sound_ok}
+use Rattle.refines.proofs.Seen.{sound_ok}
 use Rattle.refines.specs.Sounds.{Meets}
-use Rattle.refines.specs.AllocateMeets.{allocate_meets}
+use Rattle.refines.proofs.AllocateMeets.{allocate_meets}
 use Rattle.refines.specs.Runs.{Reply, yes}
 use Rattle.lent.specs.Slices.{Slices, grains, memory_of}
 use Rattle.promises.specs.Bytes.{allocate, reallocate, Asks, take, resize}

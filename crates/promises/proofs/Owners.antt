@@ -27,7 +27,7 @@ use Rattle.plans.specs.Calls.{Call, Deallocate, Reallocate}
 use Rattle.refines.specs.Sounds.{Meets}
 use Rattle.armour.specs.Dead.{NotLiveIn}
 use Rattle.armour.proofs.Dead.{deallocate_dead, reallocate_dead}
-use Rattle.refines.specs.SeenOwner.{owner_gives}
+use Rattle.refines.proofs.SeenOwner.{owner_gives}
 use Rattle.refines.proofs.DeallocateMeets.{deallocate_meets}
 use Rattle.refines.proofs.Calls.{reallocate_refused_exactly as script_cramped}
 use Rattle.refines.specs.Runs.{Reply, yes, not}

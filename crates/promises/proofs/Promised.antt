@@ -7,8 +7,7 @@ use Rattle.script.proofs.Script.{ends_gives}
 use Rattle.machine.specs.Machine.{half, classes}
 use Rattle.plans.specs.Deeds.{Plan, writes}
 use Rattle.plans.specs.Calls.{Call, Allocate, Deallocate, Reallocate, script_of}
-use Rattle.plans.specs.Few.{allocate_reads}
-use Rattle.plans.proofs.Few.{deallocate_reads, reallocate_reads}
+use Rattle.plans.proofs.Few.{allocate_reads, deallocate_reads, reallocate_reads}
 use Rattle.plans.specs.Lengths.{allocate_writes}
 use Rattle.plans.proofs.Lengths.{deallocate_writes}
 use Rattle.refines.specs.Runs.{Reply}

@@ -10,9 +10,9 @@ use Rattle.machine.specs.Machine.{half, classes}
 use Rattle.plans.specs.Deeds.{Plan}
 use Rattle.plans.specs.Calls.{Reallocate}
 use Rattle.plans.specs.Reallocate.{reallocate_script}
-use Rattle.refines.specs.Seen.{sound_ok}
+use Rattle.refines.proofs.Seen.{sound_ok}
 use Rattle.refines.specs.Sounds.{Meets}
-use Rattle.refines.specs.ReallocateWhole.{reallocate_meets}
+use Rattle.refines.proofs.ReallocateWhole.{reallocate_meets}
 use Rattle.refines.specs.Runs.{Reply, yes}
 use Rattle.lent.specs.Slices.{Slices, memory_of}
 use Rattle.promises.specs.Bytes.{reallocate}

@@ -18,8 +18,8 @@ use Rattle.plans.specs.Reallocate.{reallocate_script}
 use Rattle.plans.specs.Calls.{Call, Allocate, Deallocate, Reallocate, Insert, Append, script_of}
 use Rattle.armour.specs.Row.{Row}
 use Rattle.armour.specs.Dead.{Names}
-use Rattle.refines.specs.Seen.{gives_be}
-use Rattle.refines.specs.SeenOwner.{owner_gives}
+use Rattle.refines.proofs.Seen.{gives_be}
+use Rattle.refines.proofs.SeenOwner.{owner_gives}
 
 be_refused : (m : Memory) (f x y : ℕ) → (m f x ≡ y → ⊥) → run m (must_be f x y) ≡ no 5
 be_refused m f x y e = reads m f x _ refl ∙ halts_eq m 5 (m f x) y e

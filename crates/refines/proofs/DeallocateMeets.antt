@@ -20,38 +20,40 @@ use Rattle.chains.proofs.Legal.{legal_append}
 use Rattle.chains.proofs.Closed.{ready_append}
 use Rattle.plans.specs.Deeds.{plan_of, plan_script}
 use Rattle.plans.specs.Checks.{see_owner, see_guard, see_after, see_before, see_join}
-use Rattle.plans.specs.Checked.{join_checked}
+use Rattle.plans.proofs.Checked.{join_checked}
 use Rattle.plans.proofs.Planned.{plan_gives}
 use Rattle.plans.specs.Deallocate.{beside_steps, join_steps, deallocate_deed, deallocate_script}
 use Rattle.armour.specs.Row.{Sound}
 use Rattle.armour.specs.Turns.{link_bounds}
 use Rattle.armour.specs.Known.{Beside}
-use Rattle.armour.proofs.Known.{headed_known}
+use Rattle.armour.proofs.Known.{headed_known, after_known, before_known, whole_block}
 use Rattle.armour.proofs.Changed.{join_ready}
 use Rattle.armour.proofs.Deallocates.{return_defined, return_turns, joined_free, beside_ready}
 use Rattle.armour.proofs.Dead.{deallocate_dead}
-use Rattle.refines.specs.Sounds.{Grants, Meets, sound_after}
-use Rattle.refines.specs.Seen.{sound_ok, guard_gives}
-use Rattle.refines.specs.SeenOwner.{owner_gives, live?}
-use Rattle.refines.specs.SeenBeside.{after_gives, before_gives}
-use Rattle.refines.specs.Listed.{both_lists, both_legal, both_none}
+use Rattle.refines.specs.Sounds.{Grants, Meets}
+use Rattle.refines.proofs.Sounds.{sound_after}
+use Rattle.refines.proofs.Seen.{sound_ok, join_gives, guard_gives}
+use Rattle.refines.proofs.SeenOwner.{owner_gives, live?}
+use Rattle.refines.proofs.SeenBeside.{after_gives, before_gives, around_short}
+use Rattle.refines.proofs.Listed.{both_lists, both_legal, both_none}
 use Rattle.refines.specs.DeallocateMeets.{Here}
 
 module _ (n c : ℕ) (m : Memory) (f : Lists) (l r : List Block) (s d : ℕ) (o : Sound n c m (Here f l r s d)) where
   abbrev all : ℕ
-  all = Rattle.refines.specs.DeallocateMeets.all n c m f l r s d o
+  all = room l + (s + room r)
 
   some_grains : 1 ≤ room l + (s + room r)
-  some_grains = Rattle.refines.specs.DeallocateMeets.some_grains n c m f l r s d o
+  some_grains = omega (arith, (whole_block n c m l r s d o.row).0)
 
-  seen_after : Beside c m (l ⟨⟩ used s d ∷ r) (total l + s) (room r)
-  seen_after = Rattle.refines.specs.DeallocateMeets.seen_after n c m f l r s d o
+  -- what was seen of the neighbours
+  pub seen_after : Beside c m (l ⟨⟩ used s d ∷ r) (total l + s) (room r)
+  seen_after = (after_known n c m l r s d o.row (after_gives n c m f l r s d o)).1
 
-  seen_before : Beside c m (l ⟨⟩ used s d ∷ r) (total l - room l) (room l)
-  seen_before = Rattle.refines.specs.DeallocateMeets.seen_before n c m f l r s d o
+  pub seen_before : Beside c m (l ⟨⟩ used s d ∷ r) (total l - room l) (room l)
+  seen_before = (before_known n c m l r s d o.row (before_gives n c m f l r s d o)).1
 
-  joins : Gives m (see_join n c (room l + (s + room r))) (tt {0})
-  joins = Rattle.refines.specs.DeallocateMeets.joins n c m f l r s d o
+  pub joins : Gives m (see_join n c (room l + (s + room r))) (tt {0})
+  joins = join_gives n c m (Here f l r s d) o all some_grains (around_short n c m f l r s d o)
 
   -- the joined block is in no list before
   pub joined_none : NotIn (skip l (total (past l)) (skip r (total l + s) f)) (total l - room l)

@@ -33,8 +33,9 @@ use Rattle.armour.proofs.Laid.{le_pair, over_is}
 use Rattle.armour.specs.Inserts.{nothing_seen}
 use Rattle.armour.proofs.Inserts.{looked_at, clear_spot, region_turns}
 use Rattle.armour.proofs.Regions.{admitted, sentinel_before, region_ended}
-use Rattle.refines.specs.Sounds.{Meets, sound_after}
-use Rattle.refines.specs.Seen.{sound_ok, head_gives}
+use Rattle.refines.specs.Sounds.{Meets}
+use Rattle.refines.proofs.Sounds.{sound_after}
+use Rattle.refines.proofs.Seen.{sound_ok, head_gives}
 
 -- ---- the lists
 

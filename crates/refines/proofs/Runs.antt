@@ -2,8 +2,10 @@
 use Rattle.std.specs.Prelude.{ℕ, ◌+◌, ◌≤◌, ◌<◌, ◌≡◌, refl, List, [], ◌∷◌}
 use Rattle.std.proofs.Common.{arith, ap, sym, ◌∙◌, subst, ⊎_elim}
 use Rattle.choice.specs.Choice.{if_eq, eq_yes, eq_no, same?}
+use Rattle.definition.specs.Blocks.{used}
 use Rattle.definition.specs.Calls.{Heap, Answer, refused, granted}
-use Rattle.script.specs.Memory.{Memory, Table}
+use Rattle.invariants.specs.Order.{BlockAt}
+use Rattle.script.specs.Memory.{Memory, Next, Table}
 use Rattle.script.specs.Script.{Result, ok, no, run}
 use Rattle.chains.proofs.Legal.{kept_apart}
 use Rattle.plans.specs.Deeds.{Plan, after}

@@ -1,5 +1,6 @@
--- What follows from specs/SeenTaken.antt.
-use Rattle.std.specs.Prelude.{ℕ, suc, ◌-◌, ◌*◌, ◌≡◌, List, [], ◌∷◌}
+-- On a memory that stands for a heap the search of the map finds the list that the definition finds, and the checks of that
+-- list's first block pass.
+use Rattle.std.specs.Prelude.{ℕ, suc, ◌+◌, ◌-◌, ◌*◌, ◌≡◌, List, [], ◌∷◌}
 use Rattle.std.proofs.Common.{arith, ◌∙◌, subst, inl}
 use Rattle.std.proofs.Math.Path.{refl}
 use Rattle.choice.specs.Choice.{eq_case}
@@ -7,15 +8,15 @@ use Rattle.bits.specs.First.{first_set}
 use Rattle.bits.proofs.First.{first_is}
 use Rattle.class.specs.Class.{list_of, start_of}
 use Rattle.definition.specs.Blocks.{free}
-use Rattle.definition.specs.Lists.{Lists, found, search}
+use Rattle.definition.specs.Lists.{Lists, nothing, found, search}
 use Rattle.definition.specs.Calls.{Heap, wanted, place, keeps}
 use Rattle.invariants.specs.Order.{BlockAt}
 use Rattle.invariants.specs.Members.{Mem}
-use Rattle.invariants.specs.Promises.{sought}
+use Rattle.invariants.specs.Promises.{sought, search_empty}
 use Rattle.invariants.proofs.Promises.{finds}
 use Rattle.script.specs.Memory.{Memory, Next, Prev, Mark}
-use Rattle.script.specs.Script.{unless_le, must_eq, Gives}
-use Rattle.script.proofs.Script.{gives_bind, gives_get, gives_eq, gives_le, gives_done, searches}
+use Rattle.script.specs.Script.{unless_le, must_eq, run, no, Gives}
+use Rattle.script.proofs.Script.{gives_bind, gives_get, gives_eq, gives_le, gives_done, halts, halts_le, searches}
 use Rattle.chains.specs.Links.{Head}
 use Rattle.chains.specs.Chain.{Chain}
 use Rattle.chains.specs.Strung.{Strung}
@@ -24,13 +25,18 @@ use Rattle.chains.proofs.Seen.{next_back}
 use Rattle.plans.specs.Checks.{must_be, must_free, see_free, see_rest}
 use Rattle.plans.specs.Allocate.{see_first, see_taken}
 use Rattle.armour.specs.Row.{Sound}
-use Rattle.refines.specs.Seen.{gives_be, free_some, free_below, whole_gives, member_free, rest_gives}
+use Rattle.refines.proofs.Seen.{gives_be, free_some, free_below, whole_gives, member_free, rest_gives}
 
 -- ---- the search of the map
 
 module _ (m : Memory) (f : Lists) (s : Strung m f) (i k : ℕ) where
+  -- an empty list is not marked
   unmarked : (j : ℕ) → f j ≡ [] → m Mark j ≡ 1 → ⊥
-  unmarked = Rattle.refines.specs.SeenTaken.unmarked m f s i k
+  unmarked j e p = let z : m Mark j ≡ 0 = subst (Chain m j) e (s j) in omega arith
+
+  pub map_none : search f i k ≡ nothing → first_set (m Mark) i k ≡ k + i
+  map_none e = first_is (m Mark) i k (k + i) (omega arith) (omega arith)
+      (λ j a b. unmarked j (search_empty f i k e j a b)) (λ h. absurd (omega arith))
 
   pub map_found : (j y : ℕ) → search f i k ≡ found j y → first_set (m Mark) i k ≡ j
   map_found j y e =
@@ -77,3 +83,12 @@ module _ (n c p a : ℕ) (m : Memory) (h : Heap) where
       (gives_bind m (see_first n k y) _ (first_gives n c m h o k y d.rest d.list s b q)
       (gives_bind m (see_rest n c s (keeps (place a y) p)) _ (rest_gives n c m h o s (keeps (place a y) p) (free_some n c m h o y s b) (free_below n c m h o y s b))
       (gives_done m _))))
+
+  -- no list: refused with 1
+  pub taken_refused : Sound n c m h → sought c h p a ≡ nothing → run m (see_taken n c p a) ≡ no 1
+  unfolding see_taken
+  taken_refused o e =
+      let w = start_of (wanted p a) in
+      let q = map_none m h.lists o.strung (16 * c - w) w e in
+      searches m (16 * c - w) w _ refl
+      ∙ halts m (unless_le 1 (suc (first_set (m Mark) (16 * c - w) w)) (16 * c)) _ (halts_le m 1 _ _ (omega arith))

@@ -1,15 +1,8 @@
 -- On a memory that stands for a heap each call does what the definition says. Read Seen, SeenOwner, SeenBeside, SeenTaken.
 pub mod Sounds
-pub mod Seen
-pub mod SeenOwner
-pub mod SeenBeside
-pub mod SeenTaken
-pub mod Listed
-pub mod AllocateMeets
 pub mod DeallocateMeets
 pub mod Commute
 pub mod ElsewhereMeets
 pub mod ReallocateMeets
-pub mod ReallocateWhole
 pub mod Calls
 pub mod Runs

@@ -1,5 +1,5 @@
 -- What follows from specs/Locality.antt.
-use Rattle.std.specs.Prelude.{ℕ, ◌≡◌, refl, List}
+use Rattle.std.specs.Prelude.{ℕ, ◌+◌, ◌≤◌, ◌<◌, ◌≡◌, refl, List}
 use Rattle.std.proofs.Common.{ap, sym, ◌∙◌, inl, inr}
 use Rattle.bits.specs.First.{first_set}
 use Rattle.bits.proofs.First.{first_agree}

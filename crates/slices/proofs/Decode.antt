@@ -2,7 +2,7 @@
 use Rattle.std.specs.Prelude.{ℕ, ◌+◌, ◌-◌, ◌*◌, ◌/◌, ◌%◌, ◌^◌, ◌≤◌, ◌<◌, ◌≡◌, refl, List, length}
 use Rattle.std.proofs.Math.Nat.{mul-add-div, mul-add-mod_self_left, mul-mod_right, mul-div_right, div-eq_of_lt, mul-div-le}
 use Rattle.std.proofs.Common.{mod-eq_of_lt, mul-le-mul_left, mul-add, mul-one, div-le_self, arith, sym, ap, ◌∙◌, subst, inl, inr}
-use Rattle.choice.specs.Choice.{if_eq, eq_yes, eq_no, le_yes, eq_case, le_case}
+use Rattle.choice.specs.Choice.{if_eq, if_le, eq_yes, eq_no, le_yes, eq_case, le_case}
 use Rattle.script.specs.Memory.{none, free_word, used_word, last_word}
 use Rattle.sound.specs.Checks.{is_used, word_of}
 use Rattle.sound.proofs.Seen.{word_free, word_used, word_last}

@@ -5,7 +5,7 @@ use Rattle.std.specs.Prelude.{◌≡◌, List, length}
 use Rattle.std.proofs.Math.Path.{sym}
 use Rattle.std.proofs.Math.Logic.{⊎_elim}
 use Rattle.choice.specs.Choice.{le_yes, le_no, le?, upd}
-use Rattle.table.specs.Table.{entry, enter_length, entry_enter, entry_other}
+use Rattle.table.specs.Table.{entry, enter, enter_length, entry_enter, entry_other}
 use Rattle.bits.specs.Map.{map_words, lists, map_bit}
 use Rattle.bits.proofs.Map.{map_bit_enter}
 use Rattle.script.specs.Memory.{Next, none, root}

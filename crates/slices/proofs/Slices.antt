@@ -6,7 +6,7 @@ use Rattle.choice.specs.Choice.{le_yes, le_no}
 use Rattle.table.specs.Table.{entry}
 use Rattle.bits.specs.TableBit.{table_bit}
 use Rattle.bits.specs.Map.{map_bit}
-use Rattle.script.specs.Memory.{Size, Before, Next, Prev, Mark, Live, Table, none, root}
+use Rattle.script.specs.Memory.{Size, Before, Next, Prev, Mark, Live, Table, none, root, pick}
 use Rattle.slices.specs.Decode.{wrong_link}
 use Rattle.slices.specs.Arena.{size_at, link_at, put_link}
 use Rattle.slices.specs.Heads.{next_at, put_head}

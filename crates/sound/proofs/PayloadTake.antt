@@ -12,8 +12,8 @@ use Rattle.definition.specs.Calls.{Heap, wanted, place, keeps}
 use Rattle.invariants.specs.Order.{out, BlockAt, Apart, same, before, behind}
 use Rattle.invariants.proofs.Order.{apart, at_whole, at_end_lem}
 use Rattle.invariants.specs.Members.{Mem, mem_drop}
-use Rattle.invariants.specs.Placing.{Align, wanted_some}
-use Rattle.invariants.proofs.Placing.{align_pos, keeps_wanted, place_some, keeps_holds}
+use Rattle.invariants.specs.Placing.{Align}
+use Rattle.invariants.proofs.Placing.{align_pos, keeps_wanted, wanted_some, place_some, keeps_holds}
 use Rattle.invariants.specs.Moves.{free_used}
 use Rattle.invariants.proofs.Moves.{used_unlisted}
 use Rattle.script.specs.Memory.{Memory, Before, Next, Prev, Mark, Live, none, root, Write, ◌at◌≔◌}

@@ -10,7 +10,7 @@ use Rattle.definition.specs.Calls.{Heap}
 use Rattle.invariants.specs.Order.{idle, Ordered, order_split, BlockAt, stands_at}
 use Rattle.invariants.proofs.Order.{total_zip}
 use Rattle.invariants.specs.Members.{Mem}
-use Rattle.invariants.specs.Pieces.{free_listed}
+use Rattle.invariants.proofs.Pieces.{free_listed}
 use Rattle.script.specs.Memory.{Memory, Size, Before, Next, Prev, Mark, Live, none, root, free_word, used_word, last_word}
 use Rattle.script.specs.Script.{Script, read, ◌>>◌, run, no, unless_eq, must_eq, must_differ, Gives}
 use Rattle.script.proofs.Script.{gives_bind, gives_get, gives_eq, gives_le, gives_differ, gives_done, reads, halts, halts_eq}

@@ -6,7 +6,7 @@ use Rattle.bits.proofs.First.{first_from, first_is_set}
 use Rattle.class.specs.Class.{list_of, start_of}
 use Rattle.class.proofs.Class.{start_fits}
 use Rattle.definition.specs.Calls.{wanted, place, keeps}
-use Rattle.invariants.specs.Placing.{wanted_some}
+use Rattle.invariants.proofs.Placing.{wanted_some}
 use Rattle.script.specs.Memory.{Memory, Size, Before, Next, Prev, Mark, none, root}
 use Rattle.script.specs.Script.{unless_le, must_eq, Gives}
 use Rattle.script.proofs.Script.{inv_bind, inv_get, inv_done, inv_eq, inv_le}

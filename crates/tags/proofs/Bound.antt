@@ -3,8 +3,8 @@ use Rattle.std.specs.Prelude.{ℕ, zero, suc, ◌*◌, ◌/◌, ◌^◌, ◌≤�
 use Rattle.std.proofs.Common.{arith, pow_pos, subst}
 use Rattle.definition.specs.Blocks.{Block, free, used, total, ◌⟨⟩◌}
 use Rattle.invariants.specs.Order.{out, Ordered, order_split, BlockAt, stands_at}
-use Rattle.invariants.specs.Pieces.{pieces, Listed, free_listed}
-use Rattle.invariants.proofs.Pieces.{used_listed}
+use Rattle.invariants.specs.Pieces.{pieces, Listed}
+use Rattle.invariants.proofs.Pieces.{free_listed, used_listed}
 use Rattle.tags.specs.Tag.{flags, Tagged}
 use Rattle.tags.specs.Says.{Says, free_first, free_last, small, large, wide, pad, sentinel, inner}
 use Rattle.tags.proofs.Says.{grain}

@@ -5,7 +5,7 @@ use Rattle.choice.specs.Choice.{if_eq, eq_no, le?, le_case, eq_case, same?, upd,
 use Rattle.definition.specs.Blocks.{free, used}
 use Rattle.invariants.specs.Order.{Inside}
 use Rattle.tags.specs.Tag.{end_tag, pad_tag, Laid}
-use Rattle.tags.specs.Stamps.{Padded, Bare, Hollow, Outside, clear_free, clear_pad, lay_pad, lay_first, lay_free}
+use Rattle.tags.specs.Stamps.{Padded, Bare, Hollow, Outside, clear_free, clear_pad, lay_pad, lay_first, lay_free, clear_before}
 
 -- ---- frames: the grains outside keep their tags
 

@@ -14,8 +14,8 @@ use Rattle.tags.proofs.Within.{deallocate_field}
 use Rattle.plans.specs.Checks.{see_owner, see_guard, see_after, see_before, see_join}
 use Rattle.plans.proofs.Checked.{owner_checked}
 use Rattle.plans.specs.Deallocate.{leave_steps, beside_steps, join_steps}
-use Rattle.plans.specs.StorableParts.{bounds, beside_ready, join_ready}
-use Rattle.plans.proofs.StorableParts.{after_ready, before_ready}
+use Rattle.plans.specs.StorableParts.{bounds}
+use Rattle.plans.proofs.StorableParts.{after_ready, before_ready, beside_ready, join_ready}
 use Rattle.plans.proofs.StorableCalls.{owner_inside}
 use Rattle.lent.specs.Slices.{grains}
 use Rattle.lent.proofs.Shown.{grains_below}

@@ -7,7 +7,7 @@ use Rattle.align.proofs.Align.{power_pos}
 use Rattle.class.specs.Class.{start_of}
 use Rattle.class.proofs.Class.{start_small}
 use Rattle.definition.specs.Calls.{wanted}
-use Rattle.invariants.specs.Placing.{wanted_some}
+use Rattle.invariants.proofs.Placing.{wanted_some}
 use Rattle.invariants.proofs.Placing.{wanted_counted}
 use Rattle.allocate.specs.Plan.{plan_large, plan_none, plan_damaged, plan_cut, plan_enough}
 use Rattle.allocate.proofs.plan_take.Goals as goal

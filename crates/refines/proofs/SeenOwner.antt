@@ -17,7 +17,7 @@ use Rattle.tags.specs.Tag.{Tag, flags, START, SMALL, LARGE, small_tag, large_tag
 use Rattle.tags.proofs.Decode.{first_small, first_large, first_wide, pad_tag_lem}
 use Rattle.plans.specs.Checks.{must_grain, Owner, owned, owner_small, owner_large, see_owner}
 use Rattle.armour.specs.Row.{Row}
-use Rattle.refines.specs.Seen.{gives_grain, used_inside}
+use Rattle.refines.proofs.Seen.{gives_grain, used_inside}
 
 module _ (n c : ℕ) (m : Memory) (xs : List Block) (o : Row n c m xs) where
   module _ (x s d : ℕ) (b : BlockAt x (used s d) 0 xs) where

@@ -23,19 +23,18 @@ use Rattle.chains.specs.Legal.{NotIn, Legal}
 use Rattle.chains.proofs.Legal.{legal_append}
 use Rattle.chains.proofs.Closed.{ready_append}
 use Rattle.plans.specs.Deeds.{plan_of}
-use Rattle.plans.specs.Planned.{taken_checked}
-use Rattle.plans.proofs.Planned.{plan_gives}
+use Rattle.plans.proofs.Planned.{plan_gives, taken_checked}
 use Rattle.plans.specs.Allocate.{taken_steps, allocate_deed, see_taken, allocate_script}
 use Rattle.armour.specs.Row.{Sound}
 use Rattle.armour.specs.Turns.{link_bounds}
 use Rattle.armour.proofs.Changed.{rest_free}
 use Rattle.armour.specs.Allocates.{first_at}
 use Rattle.armour.proofs.Allocates.{handed, kept_some, kept_fits, take_ready, take_turns, taken_found}
-use Rattle.refines.specs.Sounds.{Grants, Meets, sound_after}
-use Rattle.refines.specs.Seen.{sound_ok}
-use Rattle.refines.specs.SeenTaken.{taken_refused}
-use Rattle.refines.proofs.SeenTaken.{taken_at}
-use Rattle.refines.specs.Listed.{rest_lists, rest_legal}
+use Rattle.refines.specs.Sounds.{Grants, Meets}
+use Rattle.refines.proofs.Sounds.{sound_after}
+use Rattle.refines.proofs.Seen.{sound_ok}
+use Rattle.refines.proofs.SeenTaken.{taken_at, taken_refused}
+use Rattle.refines.proofs.Listed.{rest_lists, rest_legal}
 
 module _ (n c p a : ℕ) (m : Memory) (f : Lists) (l r : List Block) (s : ℕ) (al : Align a) (o : Sound n c m (record { blocks = l ⟨⟩ free s ∷ r; lists = f }))
     (enough : wanted p a ≤ s) (e : sought c (record { blocks = l ⟨⟩ free s ∷ r; lists = f }) p a ≡ found (list_of s) (total l)) where

@@ -18,7 +18,7 @@ use Rattle.tags.proofs.Tagged.{tagged_split}
 use Rattle.tags.proofs.Decode.{first_free, free_here, behind_tag, before_tag, busy_tag}
 use Rattle.plans.specs.Checks.{must_grain, must_list, must_be, must_busy, see_free, see_entry, listed, free_after, see_after, free_before, see_before}
 use Rattle.armour.specs.Row.{Sound}
-use Rattle.refines.specs.Seen.{gives_be, gives_grain, gives_busy, used_inside, sound_ok, free_some, free_below, whole_gives, entry_gives, list_gives}
+use Rattle.refines.proofs.Seen.{gives_be, gives_grain, gives_busy, used_inside, sound_ok, free_some, free_below, whole_gives, entry_gives, list_gives}
 
 -- a free block is in the list of its size
 pub listed_gives : (n c : ℕ) (m : Memory) (h : Heap) → Sound n c m h → (y s : ℕ) → BlockAt y (free s) 0 h.blocks → Gives m (listed n c y s) s

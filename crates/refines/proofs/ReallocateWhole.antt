@@ -31,14 +31,16 @@ use Rattle.armour.specs.Allocates.{first_at}
 use Rattle.armour.proofs.Dead.{reallocate_dead}
 use Rattle.armour.proofs.InPlace.{stay_defined, stretch_defined, down_defined, elsewhere_defined}
 use Rattle.refines.specs.Sounds.{Meets}
-use Rattle.refines.specs.Seen.{sound_ok, guard_gives}
-use Rattle.refines.specs.SeenOwner.{owner_gives, live?}
-use Rattle.refines.specs.SeenBeside.{after_gives, before_gives}
-use Rattle.refines.specs.SeenTaken.{taken_refused}
-use Rattle.refines.specs.AllocateMeets.{taken_here}
-use Rattle.refines.specs.DeallocateMeets.{Here, joins}
-use Rattle.refines.specs.ElsewhereMeets.{away_meets}
-use Rattle.refines.specs.ReallocateMeets.{Finds, finds_as, stay_finds, stretch_finds, down_finds}
+use Rattle.refines.proofs.Seen.{sound_ok, guard_gives}
+use Rattle.refines.proofs.SeenOwner.{owner_gives, live?}
+use Rattle.refines.proofs.SeenBeside.{after_gives, before_gives}
+use Rattle.refines.proofs.SeenTaken.{taken_refused}
+use Rattle.refines.proofs.AllocateMeets.{taken_here}
+use Rattle.refines.specs.DeallocateMeets.{Here}
+use Rattle.refines.proofs.DeallocateMeets.{joins}
+use Rattle.refines.proofs.ElsewhereMeets.{away_meets}
+use Rattle.refines.specs.ReallocateMeets.{Finds}
+use Rattle.refines.proofs.ReallocateMeets.{finds_as, stay_finds, stretch_finds, down_finds}
 
 -- ---- 4
 
