@@ -1,15 +1,17 @@
-"""The LLVM module of the crate exports, and the kit's clang that makes machine code of it.
+"""The LLVM module of the crate exports_c, and the kit's clang that makes machine code of it.
 
-'rt staticlib' proves the crate and what it depends on, makes the module, and hands it to the kit's clang. Here it runs with
-a kit made of links, in which clang keeps the module. What is kept stands in target/archive, with a fingerprint of all that it
-was made from: where nothing has changed since, nothing is done again."""
+'rt lib' in a static library's folder proves the crate and what it depends on, makes the module, and hands it to the kit's clang.
+Here it runs with a kit made of links, in which clang keeps the module. What is kept stands in target/archive, with a fingerprint
+of all that it was made from: where nothing has changed since, nothing is done again."""
 import hashlib
 import os
 import platform
+import re
+import shutil
 import subprocess
 import tempfile
 
-CRATE = 'exports'
+CRATE = 'exports_c'
 
 TOP = os.path.abspath(os.path.join(os.path.dirname(os.path.abspath(__file__)), '..'))
 
@@ -22,16 +24,15 @@ INLINED = ['-mllvm', '-inline-threshold=10000', '-mllvm', '-inline-cold-callsite
 # by whether what is read and written overlaps, or by how often it turns: docs/SPEED.md says what each brings.
 LOOPS = ['-mllvm', '-disable-loop-idiom-all', '-fno-vectorize', '-fno-unroll-loops']
 
-# What several paths end with stays in each of them: the cases of a return, which are told apart once, are not joined again.
-APART = ['-mllvm', '-sink-common-insts=false']
-
 # On x86-64 two tests stay two jumps, and don't become two numbers, their sum and one jump.
 TWO_JUMPS = ['-mllvm', '-x86-br-merging-base-cost=-1']
 
-# As rt staticlib does it.
+# As rt lib does it. Among these is that what several paths end with stays in each of them: the cases of a return, which are told
+# apart once, are not joined again.
 ALWAYS = ['-O3', '-fPIC', '-ffunction-sections', '-fdata-sections', '-mllvm', '-trap-unreachable', '-mllvm',
-          '-no-trap-after-noreturn', '--no-default-config', '-no-canonical-prefixes', '-fno-crash-diagnostics',
-          '-Wno-override-module']
+          '-no-trap-after-noreturn', '-mllvm', '-no-x86-call-frame-opt', '-mllvm', '-disable-machine-licm', '-mllvm',
+          '-disable-postra-machine-licm', '-mllvm', '-sink-common-insts=false', '--no-default-config', '-no-canonical-prefixes',
+          '-fno-crash-diagnostics', '-Wno-override-module']
 
 # The targets of tools/archive, and the flags that one has beside these. Where no system is below the heap, it keeps off the
 # vector registers, and on x86-64 off the memory below the stack's end, which an interrupt overwrites.
@@ -61,43 +62,63 @@ def run(words, **more):
 
 
 def home():
-    """The kit's folder."""
-    return os.environ.get('RATTLE_HOME') or os.path.dirname(os.path.dirname(run(['rt', 'doc']).strip()))
+    """The kit's folder, at whose top the page stands that is to be read first."""
+    return os.path.dirname(run(['rt', 'doc']).strip())
 
 
 def tool(name):
     """A tool of the kit: clang, llvm-ar."""
-    parts = ('on', platform.machine(), 'toolchain/bin', name)
-    path = os.path.join(home(), *parts)
+    path = os.path.join(home(), 'toolchain/bin', name)
     if not os.path.isfile(path):
-        raise Failed(f'the kit has another layout: looked for {"/".join(parts)} under what RATTLE_HOME or rt doc names')
+        raise Failed(f'the kit has another layout: there is no {path}')
     return path
 
 
 def kit_that_keeps(work, module):
-    """The kit again, by links, with a clang that keeps the module it is given."""
-    kit, clang = os.path.join(work, 'kit'), tool('clang')
-    real, fake = home(), kit
-    for part in ('on', platform.machine(), 'toolchain', 'bin', 'clang'):
-        os.mkdir(fake)
-        for name in os.listdir(real):
-            if name != part:
-                os.symlink(os.path.join(real, name), os.path.join(fake, name))
-        real, fake = os.path.join(real, part), os.path.join(fake, part)
+    """The kit again, by links, with a clang that keeps the module it is given. Its scripts are copied: a script finds the kit from
+    where it itself stands."""
+    real, kit, clang = home(), os.path.join(work, 'kit'), tool('clang')
+    for part, apart in (('', ('bin', 'toolchain')), ('bin', ()), ('toolchain', ('bin',)), ('toolchain/bin', ('clang',))):
+        os.makedirs(os.path.join(kit, part), exist_ok=True)
+        for name in os.listdir(os.path.join(real, part)):
+            there, here = os.path.join(real, part, name), os.path.join(kit, part, name)
+            if name in apart:
+                continue
+            if part == 'bin' and is_script(there):
+                shutil.copy(there, here)
+            else:
+                os.symlink(there, here)
+    fake = os.path.join(kit, 'toolchain/bin/clang')
     with open(fake, 'w', encoding='utf-8') as script:
         script.write(f'#!/bin/sh\nfor a in "$@"; do case $a in *.bc) cp "$a" "{module}" ;; esac; done\nexec "{clang}" "$@"\n')
     os.chmod(fake, 0o755)
     return kit
 
 
+def is_script(path):
+    with open(path, 'rb') as text:
+        return path.endswith('.py') or text.read(2) == b'#!'
+
+
+def below(crate):
+    """A crate of crates.txt, and all that it depends on."""
+    with open(os.path.join(TOP, 'crates.txt'), encoding='utf-8') as text:
+        lines = dict(re.findall(r'^(\w+)[^:\n#]*:(.*)$', text.read(), re.M))
+    if crate not in lines:
+        raise Failed(f'crates.txt has no line for {crate}')
+    found, left = set(), [crate]
+    while left:
+        name = left.pop()
+        if name not in found and name in lines:
+            found.add(name)
+            left.extend(lines[name].split())
+    return sorted(found)
+
+
 def fingerprint():
     """Of the kit, and of all files of the crate and of what it depends on."""
-    with open(os.path.join(TOP, 'crates.txt'), encoding='utf-8') as lines:
-        needs = [line for line in lines if line.startswith(CRATE + ':')]
-    if not needs:
-        raise Failed(f'crates.txt has no line for {CRATE}')
-    seen = hashlib.sha256((run(['rt', 'version']) + platform.machine() + needs[0]).encode())
-    for crate in (CRATE, *needs[0].split(':')[1].split()):
+    seen = hashlib.sha256((run(['rt', 'version']) + platform.machine()).encode())
+    for crate in below(CRATE):
         for part in ('src', 'specs', 'proofs'):
             for folder, folders, files in os.walk(os.path.join(TOP, 'crates', crate, part)):
                 folders.sort()
@@ -135,16 +156,17 @@ def proved_module(say):
     say(f'proving {CRATE} and what it depends on: what rt has proved before is not proved again')
     with tempfile.TemporaryDirectory() as work:
         module, said = os.path.join(work, 'module.bc'), []
-        with subprocess.Popen(['rt', 'staticlib', CRATE], cwd=TOP, env=dict(os.environ, RATTLE_HOME=kit_that_keeps(work, module)),
-                              stdin=subprocess.DEVNULL, stdout=subprocess.PIPE, stderr=subprocess.STDOUT, text=True) as rt:
+        rt_here = os.path.join(kit_that_keeps(work, module), 'bin/rt')
+        with subprocess.Popen([rt_here, 'lib'], cwd=os.path.join(TOP, 'crates', CRATE), stdin=subprocess.DEVNULL,
+                              stdout=subprocess.PIPE, stderr=subprocess.STDOUT, text=True) as rt:
             for line in rt.stdout:
                 said.append(line)
-                if line.startswith('rt: ') and ' proved (' in line and 'unchanged' not in line:
-                    say(line.strip())
+                if line.startswith('rt: chose '):
+                    say(f'rt checks {line.split()[-1]}')
         if rt.returncode != 0:
-            raise Failed(f'{"".join(said)}rt staticlib {CRATE}')
+            raise Failed(f'{"".join(said)}rt lib, in crates/{CRATE}')
         if not os.path.isfile(module):
-            raise Failed("rt staticlib handed no module to the kit's clang: looked for an argument *.bc")
+            raise Failed("rt lib handed no module to the kit's clang: looked for an argument *.bc")
         with open(module, 'rb') as data:
             write(kept, data.read())
     write(stamp, new.encode())

@@ -10,13 +10,10 @@ use std::process::Command;
 use std::time::{Instant, SystemTime};
 
 /// What an archive is made of, from the repository's top.
-const SOURCES: [&str; 5] = [
-    "crates",
-    "crates.txt",
-    "RATTLE-KIT",
-    "tools/archive",
-    "tools/proved_module.py",
-];
+const SOURCES: [&str; 4] = ["crates.txt", "RATTLE-KIT", "tools/archive", "tools/proved_module.py"];
+
+/// And of each crate these. What else stands in its folder, such as `out`, changes with every check.
+const OF_A_CRATE: [&str; 3] = ["src", "specs", "proofs"];
 
 pub fn main() {
     println!("cargo:rerun-if-env-changed=FIRMHEAP_ARCHIVE");
@@ -54,10 +51,11 @@ fn made_here() -> PathBuf {
     let top = PathBuf::from(variable("CARGO_MANIFEST_DIR")).join("../..");
     let name = format!("target/archive/{triple}/libfirmheap.a");
     let archive = top.join(&name);
-    for path in SOURCES.map(|source| top.join(source)).iter().chain([&archive]) {
+    let sources = sources(&top);
+    for path in sources.iter().chain([&archive]) {
         println!("cargo:rerun-if-changed={}", path.display());
     }
-    let newest = SOURCES.iter().filter_map(|source| newest(&top.join(source))).max();
+    let newest = sources.iter().filter_map(|source| newest(source)).max();
     let made = changed(&archive);
     // On riscv64 the archive that is there may have been made with other flags.
     if arch == "riscv64" || made.is_none() || made < newest {
@@ -94,6 +92,21 @@ pub fn flags_of(arch: &str, features: &str) -> &'static [&'static str] {
 
 fn changed(file: &Path) -> Option<SystemTime> {
     fs::metadata(file).and_then(|data| data.modified()).ok()
+}
+
+/// The files and folders that an archive is made of.
+fn sources(top: &Path) -> Vec<PathBuf> {
+    let mut found: Vec<PathBuf> = SOURCES.map(|source| top.join(source)).into();
+    let crates = fs::read_dir(top.join("crates")).into_iter().flatten().flatten();
+    for folder in crates {
+        found.extend(
+            OF_A_CRATE
+                .map(|part| folder.path().join(part))
+                .into_iter()
+                .filter(|part| part.exists()),
+        );
+    }
+    found
 }
 
 /// When the file, or the newest file below the folder, was changed.

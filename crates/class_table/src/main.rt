@@ -1,10 +1,11 @@
 // Runs rlsf's table of sizes (docs/CLASSES.md) through `map_floor` and `map_ceil`, then every size of a block, and
 // compares with a plain computation in bytes: the class by doubling 32, the list in it by what is left over.
 // Nothing but safety is proved of this program; it is there to see the proved functions run.
-
 #![tactic(auto)]
 
-ghost use Rattle.std.specs.Prelude.{◌≤◌, ◌<◌};
+ghost use Rattle.std.specs.Prelude.{◌≤◌, ◌<◌, IfOk};
+
+use std::io;
 
 const GRAIN: u64 = 32;
 
@@ -12,71 +13,72 @@ const LARGEST: u64 = 131040;
 
 const LISTS: u64 = 192;
 
-const OUT: i32 = 1;
-
-fn main() {
-    io::write_all(OUT, b"size: its list; where a search for it starts\n");
-    let right = first_rows() + last_rows();
-    io::write_all(OUT, b"rows as in the table: ");
-    io::print_decimal(OUT, right);
-    io::write_all(OUT, b" of 13\n");
-    sweep();
+fn main(rt: HostRuntime) -> io::Result<()> {
+    rt.write_all(b"size: its list; where a search for it starts\n")?;
+    let right = first_rows(&rt)? + last_rows(&rt)?;
+    rt.write_all(b"rows as in the table: ")?;
+    rt.print(right)?;
+    rt.write_all(b" of 13\n")?;
+    sweep(&rt)
 }
 
-fn first_rows() -> u64
-    ensures { result ≤ 7 }
+fn first_rows(rt: &impl Print) -> io::Result<u64>
+    ensures { IfOk result (λ r. r ≤ 7) }
 {
-    row(32, 0, 0)
-        + row(64, 16, 16)
-        + row(96, 24, 24)
-        + row(160, 36, 36)
-        + row(544, 65, 65)
-        + row(1024, 80, 80)
-        + row(1056, 80, 81)
+    Ok(
+        row(rt, 32, 0, 0)?
+            + row(rt, 64, 16, 16)?
+            + row(rt, 96, 24, 24)?
+            + row(rt, 160, 36, 36)?
+            + row(rt, 544, 65, 65)?
+            + row(rt, 1024, 80, 80)?
+            + row(rt, 1056, 80, 81)?,
+    )
 }
 
-fn last_rows() -> u64
-    ensures { result ≤ 6 }
+fn last_rows(rt: &impl Print) -> io::Result<u64>
+    ensures { IfOk result (λ r. r ≤ 6) }
 {
-    row(1088, 81, 81)
-        + row(4128, 112, 113)
-        + row(65504, 175, 176)
-        + row(65536, 176, 176)
-        + row(126976, 191, 191)
-        + row(131040, 191, 192)
+    Ok(
+        row(rt, 1088, 81, 81)?
+            + row(rt, 4128, 112, 113)?
+            + row(rt, 65504, 175, 176)?
+            + row(rt, 65536, 176, 176)?
+            + row(rt, 126976, 191, 191)?
+            + row(rt, 131040, 191, 192)?,
+    )
 }
 
 // One row: writes what the functions answer, and answers 1 where the table says the same.
-fn row(size: u64, list: u64, start: u64) -> u64
+fn row(rt: &impl Print, size: u64, list: u64, start: u64) -> io::Result<u64>
     requires { (32 ≤ size) × (size ≤ 131040) }
-    ensures { result ≤ 1 }
+    ensures { IfOk result (λ r. r ≤ 1) }
 {
     let k = class::map_floor(size / GRAIN);
     let from = class::map_ceil(size / GRAIN);
-    io::print_decimal(OUT, size);
-    io::write_all(OUT, b": ");
-    print_list(k);
-    io::write_all(OUT, b"; ");
-    print_list(from);
-    io::write_all(OUT, b"\n");
+    rt.print(size)?;
+    rt.write_all(b": ")?;
+    print_list(rt, k)?;
+    rt.write_all(b"; ")?;
+    print_list(rt, from)?;
+    rt.write_all(b"\n")?;
     if k != list {
-        return 0;
+        return Ok(0);
     }
-    same(from, start)
+    Ok(same(from, start))
 }
 
-fn print_list(k: u64) {
+fn print_list(rt: &impl Print, k: u64) -> io::Result<()> {
     if LISTS <= k {
-        io::write_all(OUT, b"none");
-        return;
+        return rt.write_all(b"none");
     }
-    io::print_decimal(OUT, k / 16);
-    io::write_all(OUT, b", ");
-    io::print_decimal(OUT, k % 16);
+    rt.print(k / 16)?;
+    rt.write_all(b", ")?;
+    rt.print(k % 16)
 }
 
 // Every size of a block, from one grain to the largest.
-fn sweep() {
+fn sweep(rt: &impl Print) -> io::Result<()> {
     let mut size: u64 = GRAIN;
     let mut sizes: u64 = 0;
     let mut lists: u64 = 0;
@@ -87,13 +89,13 @@ fn sweep() {
         sizes += 1;
         size += GRAIN;
     }
-    io::write_all(OUT, b"sizes from 32 to 131040: ");
-    io::print_decimal(OUT, sizes);
-    io::write_all(OUT, b"\nlists as computed plainly: ");
-    io::print_decimal(OUT, lists);
-    io::write_all(OUT, b"\nstarts as computed plainly: ");
-    io::print_decimal(OUT, starts);
-    io::write_all(OUT, b"\n");
+    rt.write_all(b"sizes from 32 to 131040: ")?;
+    rt.print(sizes)?;
+    rt.write_all(b"\nlists as computed plainly: ")?;
+    rt.print(lists)?;
+    rt.write_all(b"\nstarts as computed plainly: ")?;
+    rt.print(starts)?;
+    rt.write_all(b"\n")
 }
 
 // 1 where the two are the same, else 0.

@@ -1,6 +1,6 @@
-// The heap's calls for C: each slice is a pointer and a length, and each answer is one number. 1 to 6 are the refusals, and no
-// granted answer of a call is one of them. What is promised of each is what firmheap promises: specs/Answers.antt says how.
-
+// The heap's calls as C hears them: each answer is one number. 1 to 6 are the refusals, and no granted answer of a call is one
+// of them. What is promised of each is what firmheap promises: specs/Answers.antt says how. Under C's names and in C's way the
+// crate exports_c has them, which is the static library.
 #![tactic(auto)]
 
 ghost use Rattle.std.specs.Prelude.{◌≡◌, ◌+◌};
@@ -45,16 +45,14 @@ fn of_given(answer: firmheap::Given) -> u64
 // ---- how long the tables must be
 
 // The words of the table of the lists. Never refuses.
-#[unsafe(no_mangle)]
-pub extern "C" fn firmheap_lists_length() -> u64
+pub fn firmheap_lists_length() -> u64
     ensures { result ≡ map_words + list_count }
 {
     firmheap::lists_length() as u64
 }
 
 // The words of the live table, for an arena of so many bytes. Never refuses.
-#[unsafe(no_mangle)]
-pub extern "C" fn firmheap_live_length(arena: usize) -> u64
+pub fn firmheap_live_length(arena: usize) -> u64
     ensures { result ≡ live_length arena }
 {
     firmheap::live_length(arena) as u64
@@ -63,13 +61,7 @@ pub extern "C" fn firmheap_live_length(arena: usize) -> u64
 // ---- an empty heap, and its regions
 
 // 0, or a refusal.
-#[unsafe(no_mangle)]
-pub extern "C" fn firmheap_init(
-    arena: &[u8],
-    lists: &mut [u64],
-    live: &mut [u64],
-    regions: &mut [u64],
-) -> u64
+pub fn firmheap_init(arena: &[u8], lists: &mut [u64], live: &mut [u64], regions: &mut [u64]) -> u64
     ensures { InitAnswers arena.now lists.old live.old regions.old result
         lists.new live.new regions.new }
 {
@@ -77,8 +69,7 @@ pub extern "C" fn firmheap_init(
 }
 
 // The bytes used from `start` on, 64 or more, or a refusal.
-#[unsafe(no_mangle)]
-pub extern "C" fn firmheap_insert_free_block(
+pub fn firmheap_insert_free_block(
     arena: &mut [u8],
     lists: &mut [u64],
     regions: &mut [u64],
@@ -92,8 +83,7 @@ pub extern "C" fn firmheap_insert_free_block(
 }
 
 // The same of a region that begins where another ended.
-#[unsafe(no_mangle)]
-pub extern "C" fn firmheap_append_free_block(
+pub fn firmheap_append_free_block(
     arena: &mut [u8],
     lists: &mut [u64],
     regions: &mut [u64],
@@ -109,8 +99,7 @@ pub extern "C" fn firmheap_append_free_block(
 // ---- payloads
 
 // The payload's offset, 16 or more, or a refusal.
-#[unsafe(no_mangle)]
-pub extern "C" fn firmheap_allocate(
+pub fn firmheap_allocate(
     arena: &mut [u8],
     lists: &mut [u64],
     live: &mut [u64],
@@ -124,8 +113,7 @@ pub extern "C" fn firmheap_allocate(
 }
 
 // 0, or a refusal.
-#[unsafe(no_mangle)]
-pub extern "C" fn firmheap_deallocate(
+pub fn firmheap_deallocate(
     arena: &mut [u8],
     lists: &mut [u64],
     live: &mut [u64],
@@ -139,8 +127,7 @@ pub extern "C" fn firmheap_deallocate(
 }
 
 // The payload's offset from now on, 16 or more, or a refusal.
-#[unsafe(no_mangle)]
-pub extern "C" fn firmheap_reallocate(
+pub fn firmheap_reallocate(
     arena: &mut [u8],
     lists: &mut [u64],
     live: &mut [u64],

@@ -21,10 +21,10 @@ use Rattle.calls.proofs.Promised.{reallocated}
 use Rattle.firmheap.specs.Contract.{Reallocates}
 
 -- what is done in half grains is what the call does
-does_performs : (S T : Slices) (x n al q p u : ℕ) (r : Reply) → Goes S (reallocate x n al) (Resize q p u) → Does S q (outcome S (Resize q p u)) r T
+does_performs : (S : Slices) (x n al q p u : ℕ) (T : Slices) (r : Reply) → Goes S (reallocate x n al) (Resize q p u) → Does S q (outcome S (Resize q p u)) r T
     → Performs S (reallocate x n al) (in_bytes (reallocate x n al) r) T
-does_performs S T x n al q p u r g (Does.refused i f) = refused (Resize q p u) i g f
-does_performs S T x n al q p u r g (Does.granted t f) = granted (Resize q p u) t g f
+does_performs S x n al q p u T r g (Does.refused i f) = refused (Resize q p u) i g f
+does_performs S x n al q p u T r g (Does.granted t f) = granted (Resize q p u) t g f
 
 module _ (a l v : List ℕ) (x n al : ℕ) (z : length a < 2 ^ 64) where
   -- a table is too short
@@ -68,7 +68,7 @@ module _ (a l v : List ℕ) (x n al : ℕ) (z : length a < 2 ^ 64) where
           module _ (h : q / 2 < grains 8 a) (r : Resized) (b m o : List ℕ) (d : Resizes a l v q w.length w.multiple (resized r) b m o) where
             done : Reallocates a l v x n al (in_bytes (reallocate x n al) (resized r)) b m o
             done t = reallocated (lent a l v t) x n al (in_bytes (reallocate x n al) (resized r)) (lent b m o t) z
-                (does_performs (lent a l v t) (lent b m o t) x n al q w.length w.multiple (resized r)
+                (does_performs (lent a l v t) x n al q w.length w.multiple (lent b m o t) (resized r)
                 (record { long = e; asks = asks; inside = omega arith }) (d t))
 
             -- refused

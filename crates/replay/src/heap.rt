@@ -19,7 +19,7 @@ const NO_LIST: u64 = 1;
 const MISPLACED: u64 = 4;
 
 // What the heap answered: 0 or why it refused; and then the answer and the usable size as they are recorded.
-#[derive(Drop)]
+#[derive(Clone, Copy)]
 pub struct Answer {
     pub refusal: u64,
     pub answer: u64,

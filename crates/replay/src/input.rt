@@ -1,19 +1,19 @@
 // The lines of standard input, which is read in large chunks.
 ghost use Rattle.std.specs.Prelude.{◌≤◌, length};
 
-use libc::STDIN_FILENO;
+use std::io::Read;
 
 const LINE_END: u8 = 10;
 
 // The part of the chunk that was read and not used yet.
-#[derive(Drop)]
+#[derive(Clone, Copy)]
 pub struct Rest {
     pub at: usize,
     pub end: usize,
 }
 
 // What came: a line of so many bytes, without its line end; the input's end; a line that does not fit; a read that failed.
-#[derive(Drop)]
+#[derive(Clone, Copy)]
 pub enum Got {
     Line(usize),
     End,
@@ -21,21 +21,21 @@ pub enum Got {
     Failed,
 }
 
-#[derive(Drop)]
+#[derive(Clone, Copy)]
 pub struct Line {
     pub got: Got,
     pub rest: Rest,
 }
 
 // A byte, the input's end, or a read that failed.
-#[derive(Drop)]
+#[derive(Clone, Copy)]
 enum Byte {
     Value(u8),
     End,
     Failed,
 }
 
-#[derive(Drop)]
+#[derive(Clone, Copy)]
 struct Step {
     byte: Byte,
     rest: Rest,
@@ -46,11 +46,11 @@ pub fn nothing() -> Rest {
 }
 
 // The next line, put at the start of text. The last one may lack its line end.
-pub fn next_line(chunk: &mut [u8], text: &mut [u8], from: Rest) -> Line {
+pub fn next_line(source: &mut impl Read, chunk: &mut [u8], text: &mut [u8], from: Rest) -> Line {
     let mut rest = from;
     let mut n = 0;
     while n < text.len() {
-        let step = next_byte(chunk, rest);
+        let step = next_byte(source, chunk, rest);
         let byte = step.byte;
         rest = step.rest;
         match byte {
@@ -90,25 +90,21 @@ fn last(n: usize) -> Got {
 }
 
 // The next byte. Where the chunk is used up it is filled anew.
-fn next_byte(chunk: &mut [u8], rest: Rest) -> Step {
+fn next_byte(source: &mut impl Read, chunk: &mut [u8], rest: Rest) -> Step {
     if rest.at < rest.end {
         return byte_of(chunk, rest);
     }
-    let got = libc::read(STDIN_FILENO, chunk);
-    if got < 0 {
-        return Step {
-            byte: Byte::Failed,
-            rest,
-        };
-    }
-    let end = io::count(got, chunk);
-    if end == 0 {
-        return Step {
+    match source.read(chunk) {
+        Ok(0) => Step {
             byte: Byte::End,
             rest,
-        };
+        },
+        Ok(end) => byte_of(chunk, Rest { at: 0, end }),
+        Err(_) => Step {
+            byte: Byte::Failed,
+            rest,
+        },
     }
-    byte_of(chunk, Rest { at: 0, end })
 }
 
 // The first byte of the rest.

@@ -1,7 +1,7 @@
 // Reads recorded calls from standard input, makes each on the heap, and compares the answer and the usable size with the
-// recorded ones. data/answers/README.md says what a line is. The last line says whether all agreed: a program has no exit
-// status of its own. Nothing but safety is proved of this program; it is there to hold the heap to the record.
-
+// recorded ones. data/answers/README.md says what a line is. The last line says whether all agreed; the exit status is
+// 0 also where not, unless a write failed. Nothing but safety is proved of this program; it is there to hold the heap to the
+// record.
 #![tactic(auto)]
 
 mod heap;
@@ -10,6 +10,9 @@ mod parse;
 mod report;
 
 ghost use Rattle.std.specs.Prelude.{◌≤◌, ◌<◌};
+
+use std::io;
+use std::io::{Input, Read};
 
 // A loop that is proved has to end, and nothing says that the input does. So this many lines are read at most.
 const MOST: u64 = 1000000000;
@@ -31,7 +34,7 @@ const CHUNK: usize = 65536;
 const LINE: usize = 128;
 
 // What became of a line: the call agreed, or it did not; or there was none to make.
-#[derive(Drop)]
+#[derive(Clone, Copy)]
 enum Outcome {
     Agreed,
     Differed,
@@ -40,19 +43,20 @@ enum Outcome {
 }
 
 // A line's outcome, and what is left of the input that was read.
-#[derive(Drop)]
+#[derive(Clone, Copy)]
 struct Turn {
     outcome: Outcome,
     rest: input::Rest,
 }
 
-fn main() {
+fn main(rt: HostRuntime) -> io::Result<()> {
     let mut arena = [0u8; ARENA];
-    start(&mut arena);
+    start(&rt, &mut arena)
 }
 
 // The heap's tables are made, and the buffers.
-fn start(arena: &mut [u8; ARENA]) {
+fn start(rt: &(impl Input + Print), arena: &mut [u8; ARENA]) -> io::Result<()> {
+    let mut source = rt.reader();
     let mut lists = [0u64; LISTS];
     let mut live = [0u64; LIVE];
     let mut regions = [0u64; REGIONS];
@@ -60,6 +64,8 @@ fn start(arena: &mut [u8; ARENA]) {
     let mut text = [0u8; LINE];
     match firmheap::init(arena, &mut lists, &mut live, &mut regions) {
         firmheap::Done::Yes => replay(
+            rt,
+            &mut source,
             arena,
             &mut lists,
             &mut live,
@@ -67,47 +73,51 @@ fn start(arena: &mut [u8; ARENA]) {
             &mut chunk,
             &mut text,
         ),
-        firmheap::Done::Refused(why) => report::not_begun(why),
+        firmheap::Done::Refused(why) => report::not_begun(rt, why),
     }
 }
 
 // All lines, up to the first that says no call.
 fn replay(
+    rt: &impl Print,
+    source: &mut impl Read,
     arena: &mut [u8],
     lists: &mut [u64],
     live: &mut [u64],
     regions: &mut [u64],
     chunk: &mut [u8],
     text: &mut [u8],
-) {
+) -> io::Result<()> {
     let mut made: u64 = 0;
     let mut agreed: u64 = 0;
     let mut rest = input::nothing();
     while made < MOST {
-        let turn = next(arena, lists, live, regions, chunk, text, rest, made, agreed);
+        let turn = next(
+            rt, source, arena, lists, live, regions, chunk, text, rest, made, agreed,
+        )?;
         let outcome = turn.outcome;
         rest = turn.rest;
-        if is_last(outcome, made, agreed) {
-            return;
+        if is_last(rt, outcome, made, agreed)? {
+            return Ok(());
         }
         agreed += point(outcome);
         made += 1;
     }
-    report::endless(made);
+    report::endless(rt, made)
 }
 
 // Whether this was the last line; then the end is told.
-fn is_last(outcome: Outcome, made: u64, agreed: u64) -> bool {
+fn is_last(rt: &impl Print, outcome: Outcome, made: u64, agreed: u64) -> io::Result<bool> {
     match outcome {
         Outcome::Ended => {
-            report::finish(made, agreed);
-            true
+            report::finish(rt, made, agreed)?;
+            Ok(true)
         }
         Outcome::Broken => {
-            report::stopped(made, agreed);
-            true
+            report::stopped(rt, made, agreed)?;
+            Ok(true)
         }
-        _ => false,
+        _ => Ok(false),
     }
 }
 
@@ -123,6 +133,8 @@ fn point(outcome: Outcome) -> u64
 
 // The line behind those that were made, of which so many agreed.
 fn next(
+    rt: &impl Print,
+    source: &mut impl Read,
     arena: &mut [u8],
     lists: &mut [u64],
     live: &mut [u64],
@@ -132,40 +144,30 @@ fn next(
     from: input::Rest,
     made: u64,
     agreed: u64,
-) -> Turn
+) -> io::Result<Turn>
     requires { made < 1000000000 }
 {
-    let line = input::next_line(chunk, text, from);
+    let line = input::next_line(source, chunk, text, from);
     let rest = line.rest;
     let got = line.got;
-    match got {
-        input::Got::Line(n) => {
-            let outcome = follow(arena, lists, live, regions, text, n, made, agreed);
-            Turn { outcome, rest }
-        }
-        input::Got::End => Turn {
-            outcome: Outcome::Ended,
-            rest,
-        },
+    let outcome = match got {
+        input::Got::Line(n) => follow(rt, arena, lists, live, regions, text, n, made, agreed)?,
+        input::Got::End => Outcome::Ended,
         input::Got::TooLong => {
-            report::too_long(made + 1);
-            Turn {
-                outcome: Outcome::Broken,
-                rest,
-            }
+            report::too_long(rt, made + 1)?;
+            Outcome::Broken
         }
         input::Got::Failed => {
-            report::unreadable(made + 1);
-            Turn {
-                outcome: Outcome::Broken,
-                rest,
-            }
+            report::unreadable(rt, made + 1)?;
+            Outcome::Broken
         }
-    }
+    };
+    Ok(Turn { outcome, rest })
 }
 
 // Makes the call that n bytes of text say, and compares.
 fn follow(
+    rt: &impl Print,
     arena: &mut [u8],
     lists: &mut [u64],
     live: &mut [u64],
@@ -174,34 +176,41 @@ fn follow(
     n: usize,
     made: u64,
     agreed: u64,
-) -> Outcome
+) -> io::Result<Outcome>
     requires { made < 1000000000 }
 {
     if text.len() < n {
-        return Outcome::Broken;
+        return Ok(Outcome::Broken);
     }
     let line = &text[0..n];
     match parse::parse(line) {
         parse::Parsed::Call(c) => {
             let a = heap::make(arena, lists, live, regions, c);
-            compare(line, made, agreed, c, a)
+            compare(rt, line, made, agreed, c, a)
         }
         parse::Parsed::Wrong(wanted) => {
-            report::malformed(made + 1, line, wanted);
-            Outcome::Broken
+            report::malformed(rt, made + 1, line, wanted)?;
+            Ok(Outcome::Broken)
         }
     }
 }
 
 // The first call that does not agree is told.
-fn compare(line: &[u8], made: u64, agreed: u64, c: parse::Call, a: heap::Answer) -> Outcome
+fn compare(
+    rt: &impl Print,
+    line: &[u8],
+    made: u64,
+    agreed: u64,
+    c: parse::Call,
+    a: heap::Answer,
+) -> io::Result<Outcome>
     requires { made < 1000000000 }
 {
     if heap::is_same(c, a) {
-        return Outcome::Agreed;
+        return Ok(Outcome::Agreed);
     }
     if agreed == made {
-        report::different(made + 1, line, c, a);
+        report::different(rt, made + 1, line, c, a)?;
     }
-    Outcome::Differed
+    Ok(Outcome::Differed)
 }

@@ -12,7 +12,7 @@ pub const RETURN: u64 = 2;
 pub const RESIZE: u64 = 3;
 
 // The numbers of a line, in their order.
-#[derive(Drop)]
+#[derive(Clone, Copy)]
 pub struct Call {
     pub kind: u64,
     pub first: u64,
@@ -23,7 +23,7 @@ pub struct Call {
 }
 
 // What was expected of a line that is no call.
-#[derive(Drop)]
+#[derive(Clone, Copy)]
 pub enum Wanted {
     Number,
     Space,
@@ -34,14 +34,14 @@ pub enum Wanted {
     Return,
 }
 
-#[derive(Drop)]
+#[derive(Clone, Copy)]
 pub enum Parsed {
     Call(Call),
     Wrong(Wanted),
 }
 
 // A number, with the place behind it.
-#[derive(Drop)]
+#[derive(Clone, Copy)]
 enum Numeral {
     Value(u64, usize),
     Wrong(Wanted),

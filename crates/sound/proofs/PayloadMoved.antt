@@ -69,7 +69,7 @@ module _ (n c p a : ℕ) (m : Memory) (f : Lists) (l r : List Block) (s d : ℕ)
       let e = place a z in
       let k = keeps e p in
       let i = room l + (s + room r) in
-      let out_Both = both_leave (beside m r (total l + s)) z (beside m l z) in
+      let out_both = both_leave (beside m r (total l + s)) z (beside m l z) in
       let g = skip l z (skip r (total l + s) f) in
       let v : List Write = (Live at 2 * total l + d ≔ 0) ∷ (Live at 2 * z + e ≔ 1) ∷ [] in
       let h = Here f l (used s d) r in
@@ -77,9 +77,9 @@ module _ (n c p a : ℕ) (m : Memory) (f : Lists) (l r : List Block) (s d : ℕ)
       let small : z + k ≤ none = omega (arith, total_past l, total_past r, total_zip l (used s d ∷ r), o.whole, o.small) in
       let un : Unlisted g z k = (λ u b j. not_in_both n c m f l r s d o u b (omega arith)) in
       record {
-        first = out_Both;
-        second = left_writes m out_Both z i k ++ (pad_writes z e ++ v);
-        parts = w ∙ ap (λ (u : List Write). u ++ (pad_writes z e ++ v)) (left_parts m out_Both z i k) ∙ append_assoc out_Both (left_writes m out_Both z i k) (pad_writes z e ++ v);
+        first = out_both;
+        second = left_writes m out_both z i k ++ (pad_writes z e ++ v);
+        parts = w ∙ ap (λ (u : List Write). u ++ (pad_writes z e ++ v)) (left_parts m out_both z i k) ∙ append_assoc out_both (left_writes m out_both z i k) (pad_writes z e ++ v);
         early = early;
         start = z;
         grains = k;
@@ -88,10 +88,10 @@ module _ (n c p a : ℕ) (m : Memory) (f : Lists) (l r : List Block) (s d : ℕ)
         long = keeps_holds e p;
         moved = moved;
         enough = enough;
-        old_stays = spares_from (total l) s d (at_whole (total l) (used s d) 0 out (l ⟨⟩ used s d ∷ r) o.heap.order here).1.some out_Both
+        old_stays = spares_from (total l) s d (at_whole (total l) (used s d) 0 out (l ⟨⟩ used s d ∷ r) o.heap.order here).1.some out_both
             (both_off n c m f l r s d o (total l) s (used_small n c m h o (total l) s d here) (used_unlisted c (l ⟨⟩ used s d ∷ r) f (total l) s d o.heap here));
-        new_stays = spares_append z k e (left_writes m out_Both z i k) (pad_writes z e ++ v)
-            (left_off m out_Both z i k e small pe fits (after_off m f g out_Both (skips_both n c m f l r s d o) z k small un (list_of (i - k))))
+        new_stays = spares_append z k e (left_writes m out_both z i k) (pad_writes z e ++ v)
+            (left_off m out_both z i k e small pe fits (after_off m f g out_both (skips_both n c m f l r s d o) z k small un (list_of (i - k))))
             (spares_append z k e (pad_writes z e) v (pad_before z k e pe) ((λ b j. omega arith), ((λ b j. omega arith), tt)));
       }
 

@@ -2,6 +2,8 @@
 // then ends. What does not fit is left out.
 ghost use Rattle.std.specs.Prelude.{◌≤◌, length};
 
+use std::io;
+
 pub fn put(text: &mut [u8], at: usize, byte: u8) -> usize {
     if text.len() <= at {
         return at;
@@ -33,9 +35,8 @@ pub fn pad(text: &mut [u8], at: usize, column: usize) -> usize {
 
 // A number with its digits in threes, as 65,536.
 pub fn put_number(text: &mut [u8], at: usize, n: u64) -> usize {
-    let mut digits = [0u8; 20];
-    let k = io::decimal(n, &mut digits);
-    put_threes(text, at, &digits[..k])
+    let mut digits = itoa::Buffer::new();
+    put_threes(text, at, digits.format(n).as_bytes())
 }
 
 fn put_threes(text: &mut [u8], at: usize, digits: &[u8]) -> usize {
@@ -61,8 +62,9 @@ fn put_comma(text: &mut [u8], at: usize, before: usize, behind: usize) -> usize 
 }
 
 // Writes the line, which ends at n.
-pub fn write(fd: i32, text: &[u8], n: usize) {
+pub fn write(rt: &impl Print, text: &[u8], n: usize) -> io::Result<()> {
     if n <= text.len() {
-        io::write_all(fd, &text[0..n]);
+        rt.write_all(&text[0..n])?;
     }
+    Ok(())
 }

@@ -1,16 +1,15 @@
 // Makes the calls of docs/HEAP.md's worked run on the heap, and shows them: a line for each call, with its answer, the free
 // blocks after it, and a bar. Answers and free blocks are compared with the document's, and a difference is said.
 // Nothing but safety is proved of this program; it is there to see the proved calls run.
-
 #![tactic(auto)]
 
 mod blocks;
 mod line;
 mod rows;
 
-ghost use Rattle.std.specs.Prelude.{◌≤◌};
+ghost use Rattle.std.specs.Prelude.{◌≤◌, IfOk};
 
-const OUT: i32 = 1;
+use std::io;
 
 const ROWS: u64 = 19;
 
@@ -35,75 +34,66 @@ const FREE: usize = 36;
 const BAR: usize = 69;
 
 // What a call answered: a number, unless it was refused.
-#[derive(Drop)]
+#[derive(Clone, Copy)]
 struct Answer {
     refusal: u64,
     value: usize,
 }
 
 // How many answers, and how many lists of free blocks, are as they should be.
-#[derive(Drop)]
+#[derive(Clone, Copy)]
 struct Score {
     answers: u64,
     frees: u64,
 }
 
-fn main() {
+fn main(rt: HostRuntime) -> io::Result<()> {
     let mut arena = [0u8; ARENA];
     let mut lists = [0u64; LISTS];
     let mut live = [0u64; LIVE];
     let mut regions = [0u64; REGIONS];
-    heading();
+    heading(&rt)?;
     match firmheap::init(&arena, &mut lists, &mut live, &mut regions) {
         firmheap::Done::Yes => {
-            let score = run(&mut arena, &mut lists, &mut live, &mut regions);
-            ending(score);
+            let score = run(&rt, &mut arena, &mut lists, &mut live, &mut regions)?;
+            ending(&rt, score)
         }
-        firmheap::Done::Refused(why) => not_begun(why),
+        firmheap::Done::Refused(why) => not_begun(&rt, why),
     }
 }
 
 // Without an empty heap there is nothing to show.
-fn not_begun(why: u64) {
-    io::write_all(OUT, b"init refused with ");
-    io::print_decimal(OUT, why);
-    io::write_all(
-        OUT,
+fn not_begun(rt: &impl Print, why: u64) -> io::Result<()> {
+    rt.write_all(b"init refused with ")?;
+    rt.print(why)?;
+    rt.write_all(
         b": a table is too short for this arena; make LISTS, LIVE and REGIONS of src/main.rt as long as crate tables says\n",
-    );
+    )
 }
 
-fn heading() {
-    io::write_all(
-        OUT,
+fn heading(rt: &impl Print) -> io::Result<()> {
+    rt.write_all(
         b"The calls of docs/HEAP.md, in an arena of 65,536 bytes that is given as one region.\n",
-    );
-    io::write_all(
-        OUT,
+    )?;
+    rt.write_all(
         b"A free block is shown as offset:size. The bar is the arena's first 3,328 bytes, 64 to a character: ",
-    );
-    io::write_all(OUT, b"# used, . free, + both.\n\n");
-    io::write_all(
-        OUT,
-        b"call                    answer      free blocks                      ",
-    );
-    io::write_all(
-        OUT,
-        b"0               1,024           2,048           3,072\n",
-    );
+    )?;
+    rt.write_all(b"# used, . free, + both.\n\n")?;
+    rt.write_all(b"call                    answer      free blocks                      ")?;
+    rt.write_all(b"0               1,024           2,048           3,072\n")
 }
 
-fn ending(s: Score) {
-    io::write_all(OUT, b"\n");
+fn ending(rt: &impl Print, s: Score) -> io::Result<()> {
+    rt.write_all(b"\n")?;
     if is_different(s) {
-        io::write_all(OUT, b"DIFFERENT. ");
+        rt.write_all(b"DIFFERENT. ")?;
     }
-    io::print_decimal(OUT, ROWS);
-    io::write_all(OUT, b" calls. Answers as in docs/HEAP.md: ");
-    io::print_decimal(OUT, s.answers);
-    io::write_all(OUT, b". Free blocks as in docs/HEAP.md: ");
-    io::print_decimal(OUT, s.frees);
-    io::write_all(OUT, b".\n");
+    rt.print(ROWS)?;
+    rt.write_all(b" calls. Answers as in docs/HEAP.md: ")?;
+    rt.print(s.answers)?;
+    rt.write_all(b". Free blocks as in docs/HEAP.md: ")?;
+    rt.print(s.frees)?;
+    rt.write_all(b".\n")
 }
 
 fn is_different(s: Score) -> bool {
@@ -116,7 +106,13 @@ fn is_different(s: Score) -> bool {
 // ---- the calls
 
 // All rows, one after the other.
-fn run(arena: &mut [u8], lists: &mut [u64], live: &mut [u64], regions: &mut [u64]) -> Score {
+fn run(
+    rt: &impl Print,
+    arena: &mut [u8],
+    lists: &mut [u64],
+    live: &mut [u64],
+    regions: &mut [u64],
+) -> io::Result<Score> {
     let mut answers: u64 = 0;
     let mut frees: u64 = 0;
     let mut i: u64 = 0;
@@ -125,10 +121,10 @@ fn run(arena: &mut [u8], lists: &mut [u64], live: &mut [u64], regions: &mut [u64
         let made = row.call;
         let answer = call(arena, lists, live, regions, made);
         answers += is_expected(row, answer);
-        frees += show(arena, row, answer);
+        frees += show(rt, arena, row, answer)?;
         i += 1;
     }
-    Score { answers, frees }
+    Ok(Score { answers, frees })
 }
 
 fn call(
@@ -204,15 +200,15 @@ fn is_expected(row: rows::Row, a: Answer) -> u64
 // ---- a line
 
 // Writes the row's line; 1 where the free blocks are the row's.
-fn show(arena: &[u8], row: rows::Row, a: Answer) -> u64
-    ensures { result ≤ 1 }
+fn show(rt: &impl Print, arena: &[u8], row: rows::Row, a: Answer) -> io::Result<u64>
+    ensures { IfOk result (λ r. r ≤ 1) }
 {
     let free = row.free;
     let right = blocks::is_free(arena, free);
     let mut text = [0u8; 240];
     let end = put_line(arena, &mut text, row, a, right);
-    line::write(OUT, &text, end);
-    right
+    line::write(rt, &text, end)?;
+    Ok(right)
 }
 
 fn put_line(arena: &[u8], text: &mut [u8], row: rows::Row, a: Answer, right: u64) -> usize {

@@ -9,7 +9,7 @@ pub const MOST_FREE: usize = 3;
 
 // A call: a region's start and length; a payload's name, size and alignment; its name, offset and alignment; its name,
 // offset, new size and alignment.
-#[derive(Drop)]
+#[derive(Clone, Copy)]
 pub enum Call {
     Give(usize, usize),
     Take(u8, usize, usize),
@@ -18,14 +18,14 @@ pub enum Call {
 }
 
 // The free blocks. One of size 0 is none.
-#[derive(Drop)]
+#[derive(Clone, Copy)]
 pub struct Free {
     pub offsets: [usize; 3],
     pub sizes: [usize; 3],
 }
 
 // A call, its answer, and the free blocks after it. A return's answer is 0.
-#[derive(Drop)]
+#[derive(Clone, Copy)]
 pub struct Row {
     pub call: Call,
     pub answer: usize,

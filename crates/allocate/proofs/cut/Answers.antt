@@ -17,13 +17,12 @@ keeps_of-keep-requires c =
     omega (arith, c.place_of-place.ensures, c.requires.0.fits, place_most c.args.multiple c.args.at (power_pos c.args.multiple c.requires.0.power))
 
 pub see_rest-rest-requires : goal.see_rest-rest-requires
-see_rest-rest-requires c =
-    (
-      c.requires.1,
-      c.requires.3,
-      keeps_within c.args.multiple c.args.at c.args.length c.args.grains c.place_of-place.result c.keeps_of-keep.result (power_pos c.args.multiple c.requires.0.power) c.place_of-place.ensures c.keeps_of-keep.ensures c.requires.4,
-      omega (arith, c.requires.2),
-    )
+see_rest-rest-requires c = (
+  c.requires.1,
+  c.requires.3,
+  keeps_within c.args.multiple c.args.at c.args.length c.args.grains c.place_of-place.result c.keeps_of-keep.result (power_pos c.args.multiple c.requires.0.power) c.place_of-place.ensures c.keeps_of-keep.ensures c.requires.4,
+  omega (arith, c.requires.2),
+)
 
 pub returns-then-not-rest : goal.returns-then-not-rest
 returns-then-not-rest c =

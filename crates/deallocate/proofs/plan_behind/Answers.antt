@@ -21,14 +21,13 @@ returns-then-not-e c =
     }
 
 pub plan_both-requires : goal.plan_both-requires
-plan_both-requires c =
-    (
-      c.requires.0,
-      behind_none c.args.a.now c.args.x c.args.s c.no_neighbour.result c.requires.1 c.no_neighbour.ensures,
-      c.requires.2,
-      c.requires.3,
-      c.requires.4,
-    )
+plan_both-requires c = (
+  c.requires.0,
+  behind_none c.args.a.now c.args.x c.args.s c.no_neighbour.result c.requires.1 c.no_neighbour.ensures,
+  c.requires.2,
+  c.requires.3,
+  c.requires.4,
+)
 
 pub returns-then-e-eq0 : goal.returns-then-e-eq0
 returns-then-e-eq0 c =
@@ -41,14 +40,13 @@ returns-then-e-eq0 c =
     }
 
 pub plan_both-requires-2 : goal.plan_both-requires-2
-plan_both-requires-2 c =
-    (
-      c.requires.0,
-      behind_seen c.args.a.now c.args.lists.now c.args.x c.args.s c.see_behind-e.result c.see_behind-e.ensures c.well_formed.0.0 c.requires.1 (not-false _ c.if-not-e.false),
-      c.requires.2,
-      c.requires.3,
-      c.requires.4,
-    )
+plan_both-requires-2 c = (
+  c.requires.0,
+  behind_seen c.args.a.now c.args.lists.now c.args.x c.args.s c.see_behind-e.result c.see_behind-e.ensures c.well_formed.0.0 c.requires.1 (not-false _ c.if-not-e.false),
+  c.requires.2,
+  c.requires.3,
+  c.requires.4,
+)
 
 pub returns : goal.returns
 returns c =

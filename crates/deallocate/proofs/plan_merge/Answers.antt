@@ -20,14 +20,13 @@ returns-then-not-before c =
     }
 
 pub plan_behind-requires : goal.plan_behind-requires
-plan_behind-requires c =
-    (
-      c.requires.0,
-      c.requires.1,
-      c.requires.2,
-      seen_as_nobody _ _ _ _ _ c.see_before-before.result c.nobody.result c.see_before-before.ensures (not-false _ c.if-not-before.false) c.if-before-eq0.true c.nobody.ensures,
-      ap (λ (r : Beside). r.ok) c.nobody.ensures,
-    )
+plan_behind-requires c = (
+  c.requires.0,
+  c.requires.1,
+  c.requires.2,
+  seen_as_nobody _ _ _ _ _ c.see_before-before.result c.nobody.result c.see_before-before.ensures (not-false _ c.if-not-before.false) c.if-before-eq0.true c.nobody.ensures,
+  ap (λ (r : Beside). r.ok) c.nobody.ensures,
+)
 
 pub returns-then-before-eq0 : goal.returns-then-before-eq0
 returns-then-before-eq0 c = c.plan_behind.ensures

@@ -20,17 +20,16 @@ sized c = c.count-s.ensures ∙ ap (λ (v : ℕ). tag_of v / flags) c.tag-first.
 
 -- a free block starts at x
 begun : (c : After-count-s) → let s = c.args in Begins s.a.now s.tags.now s.x
-begun c =
-    (
-      omega (arith, c.if-n-x.false, c.grain_count-n.ensures),
-      subst (λ (v : ℕ). FreeStart (tag_of v)) c.tag-first.ensures (says_yes _ c.starts_free.result c.starts_free.ensures c.if-not-starts_free.false),
-    )
+begun c = (
+  omega (arith, c.if-n-x.false, c.grain_count-n.ensures),
+  subst (λ (v : ℕ). FreeStart (tag_of v)) c.tag-first.ensures (says_yes _ c.starts_free.result c.starts_free.ensures c.if-not-starts_free.false),
+)
 
 -- and has some grains
 some : (c : After-count-s) → 1 ≤ c.count-s.result
 some c =
     let sized : let s = c.args in c.count-s.result ≡ entry_tag s.tags.now s.x / flags = c.count-s.ensures ∙ ap (λ (v : ℕ). tag_of v / flags) c.tag-first.ensures in
-    let begun : let s = c.args in Begins s.a.now s.tags.now s.x = ( omega (arith, c.if-n-x.false, c.grain_count-n.ensures), subst (λ (v : ℕ). FreeStart (tag_of v)) c.tag-first.ensures (says_yes _ c.starts_free.result c.starts_free.ensures c.if-not-starts_free.false), ) in omega (arith, sized, (begun).1.1)
+    let begun : let s = c.args in Begins s.a.now s.tags.now s.x = (omega (arith, c.if-n-x.false, c.grain_count-n.ensures), subst (λ (v : ℕ). FreeStart (tag_of v)) c.tag-first.ensures (says_yes _ c.starts_free.result c.starts_free.ensures c.if-not-starts_free.false)) in omega (arith, sized, (begun).1.1)
 
 -- fewer than a piece
 few : (c : After-count-s) → c.count-s.result < piece

@@ -1,20 +1,23 @@
 -- `firmheap::insert_free_block`: the whole grains among the bytes are laid out, and the answer is counted from the given start.
 use native.Mathlib.Omega.{arith}
 use mathlib.Core.Path.{ap}
+use Prim.Native.Nat.{◌+◌, ◌*◌, ◌^◌, ◌<◌}
 use Rattle.firmheap.specs.Replies.{laid}
 use Rattle.firmheap.specs.Give.{insert_done, insert_fits, insert_refused}
 use Rattle.firmheap.proofs.insert_free_block.Goals as goal
+use Rattle.firmheap.proofs.insert_free_block.Goals.{After-bytes_before}
+
+-- the answer is a number of 64 bits
+fits : (c : After-bytes_before) → c.bytes_before.result + 32 * c.in-Grains.s < 2 ^ 64
+fits c =
+    insert_fits c.args.arena.now c.args.lists.now c.args.regions.now c.args.start c.args.len c.well_formed.0.0 c.first_grain-g.result c.whole_grains-n.result (laid c.lay.result) _ _ _
+    c.first_grain-g.ensures c.whole_grains-n.ensures c.lay.ensures c.bytes_before.result c.in-Grains.s c.bytes_before.ensures (ap laid c.in-Grains.is)
 
 pub overflow_add-result : goal.overflow_add-result
-overflow_add-result c =
-    omega (
-      arith,
-      insert_fits c.args.arena.now c.args.lists.now c.args.regions.now c.args.start c.args.len c.well_formed.0.0 c.first_grain-g.result c.whole_grains-n.result (laid c.lay.result) _ _ _
-          c.first_grain-g.ensures c.whole_grains-n.ensures c.lay.ensures c.bytes_before.result c.in-Grains.s c.bytes_before.ensures (ap laid c.in-Grains.is),
-    )
+overflow_add-result c = omega (arith, fits (goal.at.overflow_add-result c).After-bytes_before)
 
 pub overflow_mul-result : goal.overflow_mul-result
-overflow_mul-result c = omega (arith, add-t20 c)
+overflow_mul-result c = omega (arith, fits (goal.at.overflow_mul-result c).After-bytes_before)
 
 pub returns-in-Grains : goal.returns-in-Grains
 returns-in-Grains c =

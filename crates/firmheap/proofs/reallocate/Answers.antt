@@ -8,24 +8,10 @@ use lib.ListN.{length}
 use Rattle.choice.specs.Says.{says_yes, says_no}
 use Rattle.slices.specs.Decode.{grains}
 use Rattle.tables.specs.Length.{LongEnough}
-use Rattle.firmheap.specs.Resize.{
+use Rattle.firmheap.specs.Resize.{reallocate_short, reallocate_wrong, reallocate_demand, reallocate_unsuited, reallocate_unkind, reallocate_outside, reallocate_refused, reallocate_granted, reallocate_offset}
+use borrow.Author.Tests.{not-true, not-false}
 use Rattle.firmheap.proofs.reallocate.Goals as goal
 use Rattle.firmheap.proofs.reallocate.Goals.{Else-count-q, Else-not-asked, Else-not-long_enough}
-
-  reallocate_short,
-  reallocate_wrong,
-  reallocate_demand,
-  reallocate_unsuited,
-  reallocate_unkind,
-  reallocate_outside,
-  reallocate_refused,
-  reallocate_granted,
-  reallocate_offset,
-}
-use borrow.Author.Tests.{not-true, not-false}
-use borrow.Author.Rules.{rules}
-use Rattle.firmheap.proofs.reallocate.Statement.{statement}
-use Rattle.firmheap.proofs.reallocate.Tie as tie
 
 -- behind the first test the tables are long enough
 long : (c : Else-not-long_enough) → let s = c.args in LongEnough (length s.arena.now) (length s.lists.now) (length s.live.now)

@@ -41,11 +41,10 @@ returns-then-not-asked c =
     allocate_wrong _ _ _ c.args.size c.args.align c.well_formed.0.0 (long (goal.at.returns-then-not-asked c).Else-not-long_enough) c.request_of-asked.result c.request_of-asked.ensures (not-true _ c.if-not-asked.true)
 
 pub plan_take-p-requires : goal.plan_take-p-requires
-plan_take-p-requires c =
-    (
-      allocate_demand c.args.arena.now c.args.lists.now c.args.live.now c.args.size c.args.align c.well_formed.0.0 (long (goal.at.plan_take-p-requires c).Else-not-long_enough) c.request_of-asked.result c.request_of-asked.ensures (right (goal.at.plan_take-p-requires c).Else-not-asked),
-      (long (goal.at.plan_take-p-requires c).Else-not-long_enough).heads,
-    )
+plan_take-p-requires c = (
+  allocate_demand c.args.arena.now c.args.lists.now c.args.live.now c.args.size c.args.align c.well_formed.0.0 (long (goal.at.plan_take-p-requires c).Else-not-long_enough) c.request_of-asked.result c.request_of-asked.ensures (right (goal.at.plan_take-p-requires c).Else-not-asked),
+  (long (goal.at.plan_take-p-requires c).Else-not-long_enough).heads,
+)
 
 pub returns-then-p-ne0 : goal.returns-then-p-ne0
 returns-then-p-ne0 c =

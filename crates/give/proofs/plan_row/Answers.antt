@@ -27,14 +27,13 @@ returns-then-rest-lt2 c =
     c.see_head-h.result (seen (goal.at.returns-then-rest-lt2 c).After-see_head-h) (not-false _ c.if-not-h.false) _ _ (omega arith) (omega arith)
 
 pub see_last-last-requires : goal.see_last-last-requires
-see_last-last-requires c =
-    (
-      c.requires.0,
-      row_there c.args.a.now c.args.lists.now c.args.g c.args.len c.well_formed.0.0 c.requires.0 c.requires.1 c.requires.2
-          c.see_head-h.result (seen (goal.at.see_last-last-requires c).After-see_head-h) (not-false _ c.if-not-h.false) (c.args.len / 4096) (omega arith) (omega arith),
-      omega arith,
-      omega arith,
-    )
+see_last-last-requires c = (
+  c.requires.0,
+  row_there c.args.a.now c.args.lists.now c.args.g c.args.len c.well_formed.0.0 c.requires.0 c.requires.1 c.requires.2
+      c.see_head-h.result (seen (goal.at.see_last-last-requires c).After-see_head-h) (not-false _ c.if-not-h.false) (c.args.len / 4096) (omega arith) (omega arith),
+  omega arith,
+  omega arith,
+)
 
 pub returns-then-not-last : goal.returns-then-not-last
 returns-then-not-last c =

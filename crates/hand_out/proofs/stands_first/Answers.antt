@@ -18,14 +18,13 @@ returns-then-prev-own-2 c = λ h.
     c.if-prev-own-2.true (c.prev-2.ensures ∙ ap (prev_at c.args.a.now) c.next-next.ensures ∙ h.1.1.1)
 
 pub returns : goal.returns
-returns c =
+returns c = (
+  sym c.list_of.ensures.0 ∙ c.if-list_of-k.false,
+  (
+    sym c.prev.ensures ∙ c.if-prev-own.false,
     (
-      sym c.list_of.ensures.0 ∙ c.if-list_of-k.false,
-      (
-        sym c.prev.ensures ∙ c.if-prev-own.false,
-        (
-          subst (λ (z : ℕ). Begins c.args.a.now c.args.tags.now z) c.next-next.ensures (says_yes _ c.begins_free.result c.begins_free.ensures c.if-not-begins_free.false),
-          ap (prev_at c.args.a.now) (sym c.next-next.ensures) ∙ sym c.prev-2.ensures ∙ c.if-prev-own-2.false,
-        ),
-      ),
-    )
+      subst (λ (z : ℕ). Begins c.args.a.now c.args.tags.now z) c.next-next.ensures (says_yes _ c.begins_free.result c.begins_free.ensures c.if-not-begins_free.false),
+      ap (prev_at c.args.a.now) (sym c.next-next.ensures) ∙ sym c.prev-2.ensures ∙ c.if-prev-own-2.false,
+    ),
+  ),
+)

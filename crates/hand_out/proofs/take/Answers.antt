@@ -79,10 +79,9 @@ overflow_add-result c =
     omega (arith, c.requires.1.inside, grains_below c.args.a.now c.well_formed.0.0, c.place_of-place.ensures, c.requires.0.most, place_most c.args.multiple c.args.block (power_pos c.args.multiple c.requires.0.power))
 
 pub returns : goal.returns
-returns c =
-    (
-      ap (λ (z : ℕ). 2 * c.args.block + z) c.place_of-place.ensures,
-      take_done c.args.a.now c.args.lists.now c.args.tags.now c.args.length c.args.multiple (taken (goal.at.returns c).Start) c.put_guard.new.a c.enter_rest.new.lists c.enter_rest.new.a c.enter_rest.new.lists c.allocate_tags.new.tags c.requires.1.steps (ran (goal.at.returns c).After-enter_rest)
-          c.put_guard.ensures refl
-          (c.allocate_tags.ensures ∙ ap (tag_stores c.args.tags.now) (tagged (goal.at.returns c).After-keeps_of-keep)),
-    )
+returns c = (
+  ap (λ (z : ℕ). 2 * c.args.block + z) c.place_of-place.ensures,
+  take_done c.args.a.now c.args.lists.now c.args.tags.now c.args.length c.args.multiple (taken (goal.at.returns c).Start) c.put_guard.new.a c.enter_rest.new.lists c.enter_rest.new.a c.enter_rest.new.lists c.allocate_tags.new.tags c.requires.1.steps (ran (goal.at.returns c).After-enter_rest)
+      c.put_guard.ensures refl
+      (c.allocate_tags.ensures ∙ ap (tag_stores c.args.tags.now) (tagged (goal.at.returns c).After-keeps_of-keep)),
+)

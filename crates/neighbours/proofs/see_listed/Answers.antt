@@ -20,13 +20,12 @@ returns-then-k-ge-LISTS c =
     )
 
 pub returns : goal.returns
-returns c =
-    (
-      record {
-        answer = λ v u. listed_entry c.args.a.now c.args.lists.now v u c.args.t c.args.y c.map_floor-k.result c.map_floor-k.ensures c.if-k-ge-LISTS.false
-            c.requires.2 c.see_entry-e.result (c.see_entry-e.ensures.0 v u);
-        list = λ _. c.map_floor-k.ensures;
-        links = λ _. c.see_entry-e.ensures.1;
-      },
-      λ _. refl,
-    )
+returns c = (
+  record {
+    answer = λ v u. listed_entry c.args.a.now c.args.lists.now v u c.args.t c.args.y c.map_floor-k.result c.map_floor-k.ensures c.if-k-ge-LISTS.false
+        c.requires.2 c.see_entry-e.result (c.see_entry-e.ensures.0 v u);
+    list = λ _. c.map_floor-k.ensures;
+    links = λ _. c.see_entry-e.ensures.1;
+  },
+  λ _. refl,
+)

@@ -58,16 +58,15 @@ returns-then-p-eq-FITTED c =
     c.keeps_of-keep.result c.keeps_of-keep.ensures c.plan_stretch-p.result c.plan_stretch-p.ensures c.if-p-ne0.false _ _ c.if-p-eq-FITTED.true c.apply_stretch.ensures
 
 pub move_payload-requires : goal.move_payload-requires
-move_payload-requires c =
-    (
-      c.requires.0,
-      c.requires.2,
-      c.plan_stretch-p.ensures.behind c.if-p-ne0.false c.if-p-eq-SAME.false,
-      c.requires.3,
-      (holds (goal.at.move_payload-requires c).Else-o-ne0).ends,
-      carries_less c.args.a.now c.args.q _ _ (holds (goal.at.move_payload-requires c).Else-o-ne0) c.args.length c.keeps_of-keep.result c.plan_stretch-p.result.behind.grains c.keeps_of-keep.ensures
-          (c.plan_stretch-p.ensures.short c.if-p-ne0.false c.if-p-eq-SAME.false c.if-p-eq-FITTED.false),
-    )
+move_payload-requires c = (
+  c.requires.0,
+  c.requires.2,
+  c.plan_stretch-p.ensures.behind c.if-p-ne0.false c.if-p-eq-SAME.false,
+  c.requires.3,
+  (holds (goal.at.move_payload-requires c).Else-o-ne0).ends,
+  carries_less c.args.a.now c.args.q _ _ (holds (goal.at.move_payload-requires c).Else-o-ne0) c.args.length c.keeps_of-keep.result c.plan_stretch-p.result.behind.grains c.keeps_of-keep.ensures
+      (c.plan_stretch-p.ensures.short c.if-p-ne0.false c.if-p-eq-SAME.false c.if-p-eq-FITTED.false),
+)
 
 pub returns : goal.returns
 returns c =

@@ -30,14 +30,13 @@ entering c =
     (run_right (early) (late) c.args.a.now c.args.lists.now c.leave_both.new.a c.leave_both.new.lists c.requires.steps c.leave_both.ensures)
 
 pub leave_both-requires : goal.leave_both-requires
-leave_both-requires c =
-    (
-      run_left (early (goal.at.leave_both-requires c).Start) (late (goal.at.leave_both-requires c).Start) c.args.a.now c.args.lists.now [] [] c.requires.steps,
-      omega (arith, c.requires.tags.counted),
-      omega (arith, c.requires.tags.counted),
-      c.requires.tags.before,
-      omega (arith, c.requires.ends, (c.requires.steps [] []).few),
-    )
+leave_both-requires c = (
+  run_left (early (goal.at.leave_both-requires c).Start) (late (goal.at.leave_both-requires c).Start) c.args.a.now c.args.lists.now [] [] c.requires.steps,
+  omega (arith, c.requires.tags.counted),
+  omega (arith, c.requires.tags.counted),
+  c.requires.tags.before,
+  omega (arith, c.requires.ends, (c.requires.steps [] []).few),
+)
 
 pub enter-requires : goal.enter-requires
 enter-requires c =
