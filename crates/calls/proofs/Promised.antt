@@ -26,8 +26,7 @@ use Rattle.calls.proofs.Begins.{begun_lengths, begun_stands}
 use Rattle.calls.proofs.Untouched.{performs_spares}
 use Rattle.calls.proofs.Runs.{performs_lengths}
 use Rattle.calls.proofs.Numbers.{performs_numbers}
-use Rattle.calls.specs.Conditions.{allocate_refused_exactly, allocate_fits, reallocate_cramped}
-use Rattle.calls.proofs.Conditions.{performs_never_5, deallocate_refused_exactly, live_returned, reallocate_refused_exactly, live_resized}
+use Rattle.calls.proofs.Conditions.{performs_never_5, allocate_refused_exactly, allocate_fits, deallocate_refused_exactly, live_returned, reallocate_refused_exactly, live_resized, reallocate_cramped}
 use Rattle.calls.specs.Resizes.{GrantedResize}
 use Rattle.calls.proofs.Resizes.{granted_resize, resize_few}
 use Rattle.calls.proofs.Handed.{allocate_within, allocate_handed, reallocate_within}

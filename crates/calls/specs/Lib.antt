@@ -10,7 +10,6 @@ pub mod Room
 pub mod Begins
 pub mod Untouched
 pub mod Runs
-pub mod One
 pub mod Numbers
 pub mod Conditions
 pub mod Handed
