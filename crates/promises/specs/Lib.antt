@@ -17,5 +17,3 @@ pub mod Storable
 pub mod Survives
 -- slices that stand for a heap
 pub mod Handed
-
--- all promises, and over runs

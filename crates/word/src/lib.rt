@@ -2,7 +2,8 @@
 //
 // A word is put together byte by byte, with no loop, so that the compiler sees one load or one store. This was checked
 // on the object code and is checked again by tools/word-code: it exports the four functions from a copy of this crate,
-// builds the static library, and looks with objdump that each is one `mov` between memory and a register, and `ret`.
+// builds the static library, and looks with objdump that each is one `mov` between memory and a register, and `ret`, after
+// what an exported function does to a null pointer.
 
 #![tactic(auto)]
 
