@@ -48,11 +48,11 @@ inside c =
 few : (c : Else-s-eq0-2) → grains 8 c.args.a.now < 576460752303423488
 few c = grains_few c.args.a.now c.well_formed.0.0
 
-known : (c : Else-s-eq0-2) → (l t : List ℕ) → let s = c.args in
+known : (c : Else-s-eq0-2) → c.table_bit.result ≡ 1 → (l t : List ℕ) → let s = c.args in
     run (held s.a.now l s.live.now t) (see_owner s.q) ≡ run (held s.a.now l s.live.now t) (owner_of s.q c.block_of-x.result c.used_at-s-2.result)
-known c l t =
+known c live l t =
     let s = c.args in
-    owner_known s.a.now l s.live.now t s.q c.table_bit.result c.table_bit.ensures c.if-table_bit-ne1.false
+    owner_known s.a.now l s.live.now t s.q c.table_bit.result c.table_bit.ensures live
     c.block_of-x.result c.count.result (c.block_of-x.ensures l s.live.now t) c.count.ensures c.if-count-x.false
     c.used_at-s-2.result c.used_at-s-2.ensures c.if-s-eq0-2.false
 
@@ -67,7 +67,8 @@ pub returns-then-s-eq0-2 : goal.returns-then-s-eq0-2
 returns-then-s-eq0-2 c l t =
     let s = c.args in
     ap shown_owner c.refused-then-s-eq0-2.ensures
-    ∙ owner_none s.a.now l s.live.now t s.q c.table_bit.result c.table_bit.ensures c.if-table_bit-ne1.false
+    ∙ owner_none s.a.now l s.live.now t s.q
+    c.table_bit.result c.table_bit.ensures c.if-table_bit-ne1.false
     c.block_of-x.result c.count.result (c.block_of-x.ensures l s.live.now t) c.count.ensures c.if-count-x.false
     c.used_at-s-2.result c.used_at-s-2.ensures c.if-s-eq0-2.true
 
@@ -78,11 +79,11 @@ pub overflow_mul-x : goal.overflow_mul-x
 overflow_mul-x c = omega (arith, inside (goal.at.overflow_mul-x c).Else-s-eq0-2, few (goal.at.overflow_mul-x c).Else-s-eq0-2)
 
 pub returns-then-x-s : goal.returns-then-x-s
-returns-then-x-s c l t = ap shown_owner c.refused-then-x-s.ensures ∙ sym (known (goal.at.returns-then-x-s c).Else-s-eq0-2 l t ∙ owner_behind _ l _ t _ _ _ c.if-x-s.true)
+returns-then-x-s c l t = ap shown_owner c.refused-then-x-s.ensures ∙ sym (known (goal.at.returns-then-x-s c).Else-s-eq0-2 c.if-table_bit-ne1.false l t ∙ owner_behind _ l _ t _ _ _ c.if-x-s.true)
 
 pub see_end-requires-2 : goal.see_end-requires-2
 see_end-requires-2 c = inside (goal.at.see_end-requires-2 c).Else-s-eq0-2
 
 pub returns : goal.returns
 returns c l t =
-    c.see_end-2.ensures l c.args.live.now t ∙ sym (known (goal.at.returns c).Else-s-eq0-2 l t ∙ owner_end _ l _ t _ _ _ c.if-x-s.false)
+    c.see_end-2.ensures l c.args.live.now t ∙ sym (known (goal.at.returns c).Else-s-eq0-2 c.if-table_bit-ne1.false l t ∙ owner_end _ l _ t _ _ _ c.if-x-s.false)
