@@ -6,17 +6,11 @@ ghost use Rattle.std.specs.Prelude.{◌+◌, ◌<◌, ◌^◌};
 ghost use Rattle.choice.specs.Says.{Says};
 ghost use Rattle.align.specs.Align.{Power, Rounded, RoundedDown};
 
-// Whether a is a power of two.
+// Whether a is a power of two. The library's test counts the bits, which takes 3 instructions more in a return on aarch64.
 pub fn is_power(a: u64) -> bool
     ensures { Says (Power a) result }
 {
-    if a == 0 {
-        return false;
-    }
-    if 1 << u64::trailing_zeros(a) == a {
-        return true;
-    }
-    false
+    a != 0 && 1 << a.trailing_zeros() == a
 }
 
 // The first multiple of a at or after x.
@@ -24,7 +18,7 @@ pub fn round_up(x: u64, a: u64) -> u64
     requires { (x + a < 2 ^ 64) × Power a }
     ensures { Rounded x a result }
 {
-    let t = u64::trailing_zeros(a);
+    let t = a.trailing_zeros();
     ((x + (a - 1)) >> t) << t
 }
 
@@ -33,6 +27,6 @@ pub fn round_down(x: u64, a: u64) -> u64
     requires { Power a }
     ensures { RoundedDown x a result }
 {
-    let t = u64::trailing_zeros(a);
+    let t = a.trailing_zeros();
     (x >> t) << t
 }

@@ -1,6 +1,6 @@
 -- What a plan of a take says: the writes, spelled from its numbers, or a refusal; and that this is what the script of a
 -- take answers. Each law is one return of the code.
-use Rattle.std.specs.Prelude.{ℕ, suc, ◌+◌, ◌-◌, ◌*◌, ◌/◌, ◌≤◌, ◌<◌, ◌≡◌, refl, Bool, true, false, List, [], ◌∷◌, ◌++◌, length}
+use Rattle.std.specs.Prelude.{ℕ, suc, ◌+◌, ◌-◌, ◌*◌, ◌/◌, ◌≤◌, ◌<◌, ◌≡◌, refl, List, [], ◌∷◌, ◌++◌, length, Result, Ok, Err, IfOk}
 use Rattle.std.proofs.Common.{arith, ◌∙◌, subst, inl, inr}
 use Rattle.std.proofs.Math.Path.{ap, sym}
 use Rattle.bits.specs.First.{first_set}
@@ -11,7 +11,8 @@ use Rattle.class.proofs.Class.{start_fits, start_large}
 use Rattle.definition.specs.Calls.{wanted, place, keeps}
 use Rattle.invariants.proofs.Placing.{place_some, keeps_wanted}
 use Rattle.script.specs.Memory.{Live, Mark, Prev, none, Write, ◌at◌≔◌}
-use Rattle.script.specs.Script.{Script, Result, ok, no, run, done, unless_le, ◌>>=◌, ◌>>◌}
+use Rattle.script.specs.Script.{Script, ok, no, run, done, unless_le, ◌>>=◌, ◌>>◌}
+use Rattle.script.specs.Script.{Result as Told}
 use Rattle.script.proofs.Script.{goes, halts, searches, gives_done, gives_le, halts_le}
 use Rattle.sound.specs.Checks.{must_back}
 use Rattle.sound.specs.Links.{unlink_writes}
@@ -19,14 +20,16 @@ use Rattle.sound.specs.Plans.{leave_script, pad_writes, take_script}
 use Rattle.sound.specs.Plans.{Plan as Answer}
 use Rattle.slices.specs.Decode.{grains}
 use Rattle.slices.proofs.Slices.{memory_mark}
+use Rattle.refusal.specs.Number.{number}
+use Rattle.refusal.specs.declared.Refusal.{Refusal}
+use Rattle.refusal.specs.declared.Refusal.TheVariants.{NoList, Damaged}
 use Rattle.free_list.specs.Lent.{lent, held, classes, Room, no_link, link, Leads, Holds}
-use Rattle.free_list.specs.Answers.{answer, unless}
 use Rattle.free_list.specs.Back.{Back, reading_prev, back_yes, back_no}
 use Rattle.allocate.specs.declared.Plan.{Plan}
 use Rattle.allocate.specs.declared.First.{First}
 use Rattle.allocate.specs.declared.Rest.{Rest}
-use Rattle.allocate.specs.First.{first_then, back_then, back_refused, after, SeenFirst}
-use Rattle.allocate.specs.Rest.{left_writes, SeenRest}
+use Rattle.allocate.specs.First.{first_then, back_then, back_refused, FirstSeen, ChecksFirst, SeenFirst}
+use Rattle.allocate.specs.Rest.{left_writes, RestSeen, SeenRest}
 
 -- ---- what a plan says
 
@@ -37,27 +40,25 @@ made_of y d w = record { answer = 2 * y + d; writes = w ++ (pad_writes y d ++ ((
 abbrev pub made_by : List ℕ → Plan → Answer
 made_by a r = made_of r.at r.place (left_writes a r.list r.next r.at r.grains r.keep r.rest_list r.head)
 
-abbrev pub shown : List ℕ → Plan → Result Answer
-shown a r = unless r.refusal (made_by a r)
+abbrev pub shown : List ℕ → Result Plan Refusal → Told Answer
+shown a (Ok p) = ok (made_by a p)
+shown a (Err r) = no (number r)
 
-abbrev pub Refuses : ℕ → Plan → Type 0
-Refuses w r = r.refusal ≡ w
-
--- room for all that is written, where it is not refused, and the links of the block, as they were found
-pub record Bounded (a l : List ℕ) (r : Plan) : Type 0 where
-  pub list : Room r.list l
-  pub next : Leads a r.next
-  pub holds : Holds a r.at r.next no_link
-  pub kept : r.keep ≤ r.grains
-  pub block : r.at + r.grains < grains 8 a
-  pub rest : (r.keep ≡ r.grains → ⊥) → Room r.rest_list l × Leads a r.head
-  pub some : 0 < r.place
-  pub pad : r.at + r.place / 2 < grains 8 a
+-- room for all that is written, and the links of the block, as they were found
+pub record Bounded (a l : List ℕ) (p : Plan) : Type 0 where
+  pub list : Room p.list l
+  pub next : Leads a p.next
+  pub holds : Holds a p.at p.next no_link
+  pub kept : p.keep ≤ p.grains
+  pub block : p.at + p.grains < grains 8 a
+  pub rest : (p.keep ≡ p.grains → ⊥) → Room p.rest_list l × Leads a p.head
+  pub some : 0 < p.place
+  pub pad : p.at + p.place / 2 < grains 8 a
 
 -- it is what the script answers
-pub record Plans (a l : List ℕ) (p u : ℕ) (r : Plan) : Type 0 where
+pub record Plans (a l : List ℕ) (p u : ℕ) (r : Result Plan Refusal) : Type 0 where
   pub answers : (v t : List ℕ) → shown a r ≡ run (held a l v t) (take_script (grains 8 a) classes p u)
-  pub bounds : r.refusal ≡ 0 → Bounded a l r
+  pub bounds : IfOk r (Bounded a l)
 
 -- the part of the script behind the checks of the first block
 abbrev cut_script : ℕ → ℕ → ℕ → ℕ → ℕ → ℕ → ℕ → Script Answer
@@ -65,14 +66,10 @@ cut_script n k p u y s x = do
   w ← leave_script n classes (unlink_writes k x none) y s (keeps (place u y) p)
   done (made_of y (place u y) w)
 
--- it is what this answers, where the check of what is next is still to come
-pub record Cuts (a l : List ℕ) (k y s x p u : ℕ) (r : Plan) : Type 0 where
-  pub answers : (v t : List ℕ) → shown a r ≡ run (held a l v t) (back_then (grains 8 a) (cut_script (grains 8 a) k p u) y s (link a x))
-  pub bounds : r.refusal ≡ 0 → Bounded a l r
-
--- a refusal needs no room
-refused : (a l : List ℕ) (w : ℕ) (r : Plan) → 0 < w → Refuses w r → r.refusal ≡ 0 → Bounded a l r
-refused a l w r h e z = absurd (omega arith)
+-- it is what this answers of the first block o of list k, where the check of what is next is still to come
+pub record Cuts (a l : List ℕ) (k : ℕ) (o : First) (p u : ℕ) (r : Result Plan Refusal) : Type 0 where
+  pub answers : (v t : List ℕ) → shown a r ≡ run (held a l v t) (back_then (grains 8 a) (cut_script (grains 8 a) k p u) o.at o.grains (link a o.next))
+  pub bounds : IfOk r (Bounded a l)
 
 -- ---- behind the first block
 
@@ -82,67 +79,62 @@ keeps_within u y p s d m h e q l =
     let g : m ≡ keeps (place u y) p = q ∙ ap (λ (z : ℕ). keeps z p) e in
     omega (arith, g, keeps_wanted u y p h)
 
--- the rest is damaged
-damaged_answers : (a l : List ℕ) (k y s x p u d m : ℕ) (r : Plan) (o : Rest) → Refuses 5 r → d ≡ place u y → m ≡ keeps d p
-    → SeenRest a l k x s m o → o.ok ≡ false → (v t : List ℕ) → shown a r ≡ run (held a l v t) (back_then (grains 8 a) (cut_script (grains 8 a) k p u) y s (link a x))
-damaged_answers a l k y s x p u d m r o f e q w b v t =
-    let c = held a l v t in
-    let g : m ≡ keeps (place u y) p = q ∙ ap (λ (z : ℕ). keeps z p) e in
-    let h = sym (w.seen v t y) ∙ ap (λ (z : Bool). answer z (left_writes a k x y s m o.list o.head)) b in
-    ap (λ (z : ℕ). unless z (made_by a r)) f
-    ∙ sym (back_refused c (grains 8 a) y (link a x) (cut_script (grains 8 a) k p u y s (link a x))
-    (halts c (leave_script (grains 8 a) classes (unlink_writes k (link a x) none) y s (keeps (place u y) p)) _ (subst (λ (z : ℕ). run c (leave_script (grains 8 a) classes (unlink_writes k (link a x) none) y s z) ≡ no 5) g h)))
-
-pub cut_damaged : (a l : List ℕ) (k y s x p u d m : ℕ) (r : Plan) (o : Rest) → Refuses 5 r → d ≡ place u y → m ≡ keeps d p
-    → SeenRest a l k x s m o → o.ok ≡ false → Cuts a l k y s x p u r
-cut_damaged a l k y s x p u d m r o f e q w b = record { answers = damaged_answers a l k y s x p u d m r o f e q w b; bounds = refused a l 5 r (omega arith) f }
-
--- what is next does not lead back
-astray_answers : (a l : List ℕ) (k y s x p u : ℕ) (r : Plan) → length a < 18446744073709551616 → Refuses 5 r → (Back a Prev x y → ⊥)
-    → (v t : List ℕ) → shown a r ≡ run (held a l v t) (back_then (grains 8 a) (cut_script (grains 8 a) k p u) y s (link a x))
-astray_answers a l k y s x p u r i f b v t =
-    ap (λ (z : ℕ). unless z (made_by a r)) f
-    ∙ sym (halts (held a l v t) (must_back (grains 8 a) Prev (link a x) y) _ (back_no (held a l v t) a Prev x y i (reading_prev a l v t) b))
-
-pub cut_astray : (a l : List ℕ) (k y s x p u : ℕ) (r : Plan) → length a < 18446744073709551616 → Refuses 5 r → (Back a Prev x y → ⊥) → Cuts a l k y s x p u r
-cut_astray a l k y s x p u r i f b = record { answers = astray_answers a l k y s x p u r i f b; bounds = refused a l 5 r (omega arith) f }
-
 -- a link that leads back leads
 back_leads : (a : List ℕ) (y x : ℕ) → Back a Prev x y → Leads a x
 back_leads a y x (inl e) = inl e
 back_leads a y x (inr q) = inr q.0
 
--- all agrees
-abbrev cut_plan : ℕ → ℕ → ℕ → ℕ → ℕ → ℕ → Rest → Plan
-cut_plan k y s x d m o = record { refusal = 0; list = k; at = y; grains = s; next = x; place = d; keep = m; rest_list = o.list; head = o.head }
+-- d is the payload's place, and m what the block keeps
+module _ (a l : List ℕ) (k : ℕ) (o : First) (p u d m : ℕ) (e : d ≡ place u o.at) (q : m ≡ keeps d p) where
+  kept_is : m ≡ keeps (place u o.at) p
+  kept_is = q ∙ ap (λ (z : ℕ). keeps z p) e
 
-made_answers : (a l : List ℕ) (k y s x p u d m : ℕ) (o : Rest) → length a < 18446744073709551616 → Back a Prev x y → d ≡ place u y → m ≡ keeps d p → SeenRest a l k x s m o → o.ok ≡ true
-    → (v t : List ℕ) → shown a (cut_plan k y s x d m o) ≡ run (held a l v t) (back_then (grains 8 a) (cut_script (grains 8 a) k p u) y s (link a x))
-made_answers a l k y s x p u d m o i f e q w b v t =
-    let c = held a l v t in
-    let g : m ≡ keeps (place u y) p = q ∙ ap (λ (z : ℕ). keeps z p) e in
-    let h = sym (w.seen v t y) ∙ ap (λ (z : Bool). answer z (left_writes a k x y s m o.list o.head)) b in
-    ap (λ (z : ℕ). ok (made_of y z (left_writes a k x y s m o.list o.head))) e
-    ∙ sym (goes c (must_back (grains 8 a) Prev (link a x) y) _ (back_yes c a Prev x y i (reading_prev a l v t) f)
-    ∙ goes c (leave_script (grains 8 a) classes (unlink_writes k (link a x) none) y s (keeps (place u y) p)) _ (subst (λ (z : ℕ). run c (leave_script (grains 8 a) classes (unlink_writes k (link a x) none) y s z) ≡ ok (left_writes a k x y s m o.list o.head)) g h)
-    ∙ gives_done c _)
+  abbrev leaves : ℕ → Script (List Write)
+  leaves z = leave_script (grains 8 a) classes (unlink_writes k (link a o.next) none) o.at o.grains z
 
--- and there is room
-pub cut_made : (a l : List ℕ) (k y s x p u d m : ℕ) (o : Rest) → length a < 18446744073709551616 → 0 < u → Room k l → Back a Prev x y → Holds a y x no_link → y + s < grains 8 a → wanted p u ≤ s → d ≡ place u y → m ≡ keeps d p
-    → SeenRest a l k x s m o → o.ok ≡ true → Cuts a l k y s x p u (cut_plan k y s x d m o)
-cut_made a l k y s x p u d m o c h g f t i j e q w b = record {
-  answers = made_answers a l k y s x p u d m o c f e q w b;
-  bounds = λ _. record {
-    list = g;
-    next = back_leads a y x f;
-    holds = t;
-    kept = keeps_within u y p s d m h e q j;
-    block = i;
-    rest = λ n. let r = w.ready n b in (record { known = r.0; room = g.room }, r.1 (back_leads a y x f));
-    some = omega (arith, place_some u y h);
-    pad = omega (arith, keeps_within u y p s d m h e q j);
-  };
-}
+  -- the rest is refused
+  pub cut_damaged : (r : Refusal) → SeenRest a l k o.next o.grains m (Err r) → Cuts a l k o p u (Err r)
+  cut_damaged r w = record {
+    answers = λ v t.
+        let c = held a l v t in
+        ap no w.0
+        ∙ sym (back_refused c (grains 8 a) o.at (link a o.next) (cut_script (grains 8 a) k p u o.at o.grains (link a o.next))
+        (halts c (leaves (keeps (place u o.at) p)) _ (subst (λ (z : ℕ). run c (leaves z) ≡ no 5) kept_is (sym (w.1 v t o.at)))));
+    bounds = tt;
+  }
+
+  module _ (i : length a < 18446744073709551616) where
+    -- what is next does not lead back
+    pub cut_astray : (Back a Prev o.next o.at → ⊥) → Cuts a l k o p u (Err Damaged)
+    cut_astray b = record {
+      answers = λ v t.
+          sym (halts (held a l v t) (must_back (grains 8 a) Prev (link a o.next) o.at) _ (back_no (held a l v t) a Prev o.next o.at i (reading_prev a l v t) b));
+      bounds = tt;
+    }
+
+    -- all agrees, and there is room
+    pub cut_made : (w : Rest) → 0 < u → Room k l → Back a Prev o.next o.at → FirstSeen a k o → wanted p u ≤ o.grains → RestSeen a l k o.next o.grains m w
+        → Cuts a l k o p u (Ok (record { list = k; at = o.at; grains = o.grains; next = o.next; place = d; keep = m; rest_list = w.list; head = w.head }))
+    cut_made w h g f t j s =
+        let n = keeps_within u o.at p o.grains d m h e q j in
+        let b = back_leads a o.at o.next f in record {
+          answers = λ v t.
+              let c = held a l v t in
+              ap (λ (z : ℕ). ok (made_of o.at z (left_writes a k o.next o.at o.grains m w.list w.head))) e
+              ∙ sym (goes c (must_back (grains 8 a) Prev (link a o.next) o.at) _ (back_yes c a Prev o.next o.at i (reading_prev a l v t) f)
+              ∙ goes c (leaves (keeps (place u o.at) p)) _ (subst (λ (z : ℕ). run c (leaves z) ≡ ok (left_writes a k o.next o.at o.grains m w.list w.head)) kept_is (sym (s.seen v t o.at)))
+              ∙ gives_done c _);
+          bounds = record {
+            list = g;
+            next = b;
+            holds = t.holds;
+            kept = n;
+            block = t.inside;
+            rest = λ c. let z = s.ready c in (record { known = z.0; room = g.room }, z.1 b);
+            some = omega (arith, place_some u o.at h);
+            pad = omega (arith, n, t.inside);
+          };
+        }
 
 -- ---- the search
 
@@ -165,48 +157,36 @@ module _ (a l : List ℕ) (p u c k : ℕ) (start_is : c ≡ start_of (wanted p u
       (first_agree (m Mark) (map_bit l) (lists - start_of (wanted p u)) (start_of (wanted p u)) (λ j _ _. memory_mark 8 (lent a l v t) j) ∙ i)
 
   -- no list has a block
-  none_answers : (r : Plan) → Refuses 1 r → lists ≤ k → (v t : List ℕ) → shown a r ≡ run (held a l v t) (take_script (grains 8 a) classes p u)
-  none_answers r e h v t =
-      let m = held a l v t in
-      ap (λ (z : ℕ). unless z (made_by a r)) e
-      ∙ sym (searched v t ∙ halts m (unless_le 1 (suc k) (16 * classes)) _ (halts_le m 1 (suc k) (16 * classes) (omega arith)))
+  pub plan_none : lists ≤ k → Plans a l p u (Err NoList)
+  plan_none h = record {
+    answers = λ v t.
+        let m = held a l v t in
+        sym (searched v t ∙ halts m (unless_le 1 (suc k) (16 * classes)) _ (halts_le m 1 (suc k) (16 * classes) (omega arith)));
+    bounds = tt;
+  }
 
-  pub plan_none : (r : Plan) → Refuses 1 r → lists ≤ k → Plans a l p u r
-  plan_none r e h = record { answers = none_answers r e h; bounds = refused a l 1 r (omega arith) e }
-
-  module _ (h : k < lists) (o : First) (w : SeenFirst a l k o) where
-    seen : (v t : List ℕ) → run (held a l v t) (take_script (grains 8 a) classes p u)
-        ≡ after o.ok (run (held a l v t) (back_then (grains 8 a) (cut_script (grains 8 a) k p u) o.at o.grains (link a o.next)))
-    seen v t =
+  module _ (h : k < lists) where
+    from_first : (v t : List ℕ) → run (held a l v t) (take_script (grains 8 a) classes p u)
+        ≡ run (held a l v t) (first_then (grains 8 a) k (λ y s x. cut_script (grains 8 a) k p u y s x))
+    from_first v t =
         let m = held a l v t in
         searched v t ∙ goes m (unless_le 1 (suc k) (16 * classes)) _ (gives_le m 1 (suc k) (16 * classes) (omega arith))
-        ∙ w.seen v t (cut_script (grains 8 a) k p u)
 
     -- its first block is damaged
-    lost_answers : (r : Plan) → Refuses 5 r → o.ok ≡ false → (v t : List ℕ) → shown a r ≡ run (held a l v t) (take_script (grains 8 a) classes p u)
-    lost_answers r e b v t =
-        ap (λ (z : ℕ). unless z (made_by a r)) e
-        ∙ sym (seen v t ∙ ap (λ (z : Bool). after z (run (held a l v t) (back_then (grains 8 a) (cut_script (grains 8 a) k p u) o.at o.grains (link a o.next)))) b)
-
-    pub plan_damaged : (r : Plan) → Refuses 5 r → o.ok ≡ false → Plans a l p u r
-    plan_damaged r e b = record { answers = lost_answers r e b; bounds = refused a l 5 r (omega arith) e }
+    pub plan_damaged : (e : Refusal) → ChecksFirst a l k (Err e) → Plans a l p u (Err e)
+    plan_damaged e w = record { answers = λ v t. sym (from_first v t ∙ w v t (cut_script (grains 8 a) k p u)); bounds = tt }
 
     -- its first block is taken
-    pub plan_cut : (r : Plan) → o.ok ≡ true → Cuts a l k o.at o.grains o.next p u r → Plans a l p u r
-    plan_cut r b q = record {
-      answers = λ v t. q.answers v t
-          ∙ sym (seen v t ∙ ap (λ (z : Bool). after z (run (held a l v t) (back_then (grains 8 a) (cut_script (grains 8 a) k p u) o.at o.grains (link a o.next)))) b);
-      bounds = q.bounds;
-    }
+    module _ (o : First) (w : SeenFirst a l k (Ok o)) where
+      pub plan_cut : (r : Result Plan Refusal) → Cuts a l k o p u r → Plans a l p u r
+      plan_cut r q = record { answers = λ v t. q.answers v t ∙ sym (from_first v t ∙ w.0 v t (cut_script (grains 8 a) k p u)); bounds = q.bounds }
 
-    -- and has what is wanted
-    pub plan_enough : 0 < wanted p u → o.ok ≡ true → wanted p u ≤ o.grains
-    plan_enough i b =
-        let j = w.inside b in
-        start_fits (wanted p u) o.grains i j.1 (omega (arith, j.2, start_is, list_is, first_from (map_bit l) (lists - c) c))
+      -- and has what is wanted
+      pub plan_enough : 0 < wanted p u → wanted p u ≤ o.grains
+      plan_enough i = start_fits (wanted p u) o.grains i w.1.some (omega (arith, w.1.listed, start_is, list_is, first_from (map_bit l) (lists - c) c))
 
 -- so much is wanted that no list has it
-pub plan_large : (a l : List ℕ) (p u w : ℕ) (r : Plan) → Refuses 1 r → w ≡ wanted p u → 4096 ≤ w → Plans a l p u r
-plan_large a l p u w r e i h =
-    plan_none a l p u (start_of (wanted p u)) (found l (start_of (wanted p u))) refl refl r e
+pub plan_large : (a l : List ℕ) (p u w : ℕ) → w ≡ wanted p u → 4096 ≤ w → Plans a l p u (Err NoList)
+plan_large a l p u w i h =
+    plan_none a l p u (start_of (wanted p u)) (found l (start_of (wanted p u))) refl refl
     (omega (arith, start_large (wanted p u) 12 (omega arith) (omega arith), first_from (map_bit l) (lists - start_of (wanted p u)) (start_of (wanted p u))))

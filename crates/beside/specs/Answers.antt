@@ -1,11 +1,17 @@
 -- What the contracts speak of: the answer on a payload, read as a script's result.
-use Rattle.script.specs.Script.{Result, ok, no}
-use Rattle.plans.specs.Checks.{Owner as Block}
-use Rattle.beside.specs.declared.Owner.{Owner}
-use Rattle.beside.specs.declared.Owner.TheVariants.{Of, NotLive, Damaged}
+use Rattle.std.specs.Prelude.{Result, Ok, Err}
+use Rattle.script.specs.Script.{ok, no}
+use Rattle.script.specs.Script.{Result as Answer}
+use Rattle.plans.specs.Checks.{Owner}
+use Rattle.refusal.specs.Number.{number}
+use Rattle.refusal.specs.declared.Refusal.{Refusal}
+use Rattle.beside.specs.declared.Block.{Block}
 
--- its block and how many grains it has; no such payload is live; the tags contradict each other
-abbrev pub told_owner : Owner → Result Block
-told_owner (Of x s) = ok (record { at = x; grains = s })
-told_owner NotLive = no 3
-told_owner Damaged = no 5
+-- a block, as the scripts have it
+abbrev pub owner_of : Block → Owner
+owner_of b = record { at = b.at; grains = b.grains }
+
+-- the payload's block, or why there is none
+abbrev pub owning : Result Block Refusal → Answer Owner
+owning (Ok b) = ok (owner_of b)
+owning (Err r) = no (number r)

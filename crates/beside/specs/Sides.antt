@@ -1,5 +1,5 @@
 -- The free blocks beside a used one, as the tags and the lists say. Each law is one return of the code.
-use Rattle.std.specs.Prelude.{ℕ, suc, ◌+◌, ◌-◌, ◌/◌, ◌%◌, ◌≤◌, ◌<◌, ◌≡◌, Bool, true, false, List}
+use Rattle.std.specs.Prelude.{ℕ, suc, ◌+◌, ◌-◌, ◌/◌, ◌%◌, ◌≤◌, ◌<◌, ◌≡◌, Bool, List}
 use Rattle.std.proofs.Common.{arith, ◌∙◌}
 use Rattle.std.proofs.Math.Path.{ap, sym}
 use Rattle.choice.specs.Choice.{eq_yes, eq_no}
@@ -7,7 +7,7 @@ use Rattle.choice.specs.Says.{Says}
 use Rattle.table.specs.Table.{entry}
 use Rattle.class.specs.Class.{list_of}
 use Rattle.script.specs.Memory.{Memory}
-use Rattle.script.specs.Script.{ok, no, run, done, ◌>>=◌, must_le}
+use Rattle.script.specs.Script.{ok, no, run, must_le}
 use Rattle.script.proofs.Script.{goes, halts, reads, gives_done, gives_eq, gives_le, halts_eq, halts_le}
 use Rattle.machine.specs.Machine.{classes, piece}
 use Rattle.tags.specs.Tag.{Tag, flags, START, FREE, free_tag}
@@ -15,7 +15,7 @@ use Rattle.tags.specs.Decode.{Busy}
 use Rattle.plans.specs.Checks.{must_grain, must_list, must_be, must_busy, see_free, see_entry, listed, free_after, see_after, free_before, see_before}
 use Rattle.lent.specs.Slices.{grains, tag_words, tag_of, tag_word, memory_of}
 use Rattle.lent.proofs.TagWords.{tag_is}
-use Rattle.entries.specs.Answers.{held, answer, verdict}
+use Rattle.entries.specs.Answers.{held, answer}
 use Rattle.entries.specs.Decides.{decided, decides_last}
 use Rattle.entries.specs.Seen.{decides_busy}
 use Rattle.entries.specs.Sizes.{list_there, list_missing}
@@ -33,18 +33,19 @@ module _ (a l t g : List ℕ) where
     pub listed_long : piece ≤ s → run m (listed n classes y s) ≡ no 5
     listed_long h = halts m (must_list classes s) _ (list_missing m s some h)
 
-    pub listed_seen : s < piece → (k : ℕ) → k ≡ list_of s → (b : Bool) → run m (see_entry n k y) ≡ verdict b → (r : Bool) → b ≡ r → run m (listed n classes y s) ≡ answer r s
-    listed_seen h k e b w r z = goes m (must_list classes s) _ (list_there m s some h) ∙ go r (ap (λ (j : ℕ). run m (see_entry n j y)) (sym e) ∙ w ∙ ap verdict z)
-      where
-        go : (r : Bool) → run m (see_entry n (list_of s) y) ≡ verdict r → run m (see_entry n (list_of s) y >>= λ _. done s) ≡ answer r s
-        go true q = goes m (see_entry n (list_of s) y) _ q ∙ gives_done m s
-        go false q = halts m (see_entry n (list_of s) y) _ q
+    pub listed_torn : s < piece → (k i : ℕ) → k ≡ list_of s → run m (see_entry n k y) ≡ no i → run m (listed n classes y s) ≡ no i
+    listed_torn h k i e w = goes m (must_list classes s) _ (list_there m s some h) ∙ halts m (see_entry n (list_of s) y) _ (ap (λ (j : ℕ). run m (see_entry n j y)) (sym e) ∙ w)
+
+    pub listed_seen : s < piece → (k : ℕ) → k ≡ list_of s → run m (see_entry n k y) ≡ ok (tt {0}) → run m (listed n classes y s) ≡ ok s
+    listed_seen h k e w =
+        goes m (must_list classes s) _ (list_there m s some h) ∙ goes m (see_entry n (list_of s) y) _ (ap (λ (j : ℕ). run m (see_entry n j y)) (sym e) ∙ w)
+        ∙ gives_done m s
 
   -- ---- after a used block, from y on
 
   module _ (y : ℕ) where
-    pub after_torn : run m (see_free n y) ≡ no 5 → run m (free_after n classes y) ≡ no 5
-    after_torn h = halts m (see_free n y) _ h
+    pub after_torn : (i : ℕ) → run m (see_free n y) ≡ no i → run m (free_after n classes y) ≡ no i
+    after_torn i h = halts m (see_free n y) _ h
 
     pub after_whole : (s : ℕ) → run m (see_free n y) ≡ ok s → run m (free_after n classes y) ≡ run m (listed n classes y s)
     after_whole s h = goes m (see_free n y) _ h

@@ -1,10 +1,10 @@
 -- What follows from specs/Bit.antt.
-use Rattle.std.specs.Prelude.{ℕ, zero, suc, ◌+◌, ◌*◌, ◌/◌, ◌%◌, ◌^◌, ◌≤◌, ◌<◌, max, ◌≡◌, refl}
-use Rattle.std.proofs.Math.Nat.{div_self, pow-zero, zero-div, div-eq_of_lt}
-use Rattle.std.proofs.Common.{div-one, one-mul, lt_of_lt_of_le, one-add, arith, ap, ◌∙◌, pow_pos, pow_mono, shr-shr, shl_exact}
+use Rattle.std.specs.Prelude.{ℕ, suc, ◌+◌, ◌*◌, ◌/◌, ◌%◌, ◌^◌, ◌≤◌, ◌<◌, max, ◌≡◌}
+use Rattle.std.proofs.Common.{one-mul, arith, ap, sym, ◌∙◌, shr-shr, shl_exact}
 use Rattle.std.proofs.Math.Pow.{pow-lt}
-use Rattle.std.specs.Int.Bits.{bit_or, bit_xor, or_step, xor_step, differ}
-use Rattle.std.proofs.lemmas.Nat.{or_lt, xor_lt, or_shr, xor_shr}
+use Rattle.std.specs.Int.Bits.{bit_or, bit_xor}
+use Rattle.std.proofs.lemmas.Nat.{or_lt, xor_lt}
+use Rattle.std.proofs.lemmas.Nat.Bits.{bit_at_lowest, bit_at-suc, bit_at-zero, bit_at_above, bit_at-pow_same, bit_at-pow_other, bit_at_or, bit_at_xor}
 use Rattle.bits.specs.Bit.{bit, set_bit, clear_bit}
 
 -- ---- one bit
@@ -17,12 +17,12 @@ bit_lt m j = omega arith
 -- bit 0 says whether m is odd
 pub bit_zero : (m : ℕ) → bit m 0 ≡ m % 2
 unfolding bit
-bit_zero m = simp (pow-zero, div-one)
+bit_zero m = bit_at_lowest m
 
 -- the others are those of half of m
 pub bit_suc : (m j : ℕ) → bit m (suc j) ≡ bit (m / 2) j
 unfolding bit
-bit_suc m j = rw (shr-shr m 1 j, one-add)
+bit_suc m j = bit_at-suc m j
 
 -- a shift to the right moves them down
 pub bit_shr : (m i j : ℕ) → bit (m / 2 ^ i) j ≡ bit m (i + j)
@@ -32,52 +32,32 @@ bit_shr m i j = ap (λ (x : ℕ). x % 2) (shr-shr m i j)
 -- 0 has no bit set
 pub bit_none : (j : ℕ) → bit 0 j ≡ 0
 unfolding bit
-bit_none j = rw zero-div
+bit_none j = bit_at-zero j
 
 -- a number below 2 ^ k has no bit set from k on
 pub bit_high : (m k j : ℕ) → m < 2 ^ k → k ≤ j → bit m j ≡ 0
 unfolding bit
-bit_high m k j h l = rw (div-eq_of_lt (lt_of_lt_of_le h (pow_mono {i = k} {j = j} l)))
+bit_high m k j h l = bit_at_above m k j h l
 
 -- ---- a power of two has one bit set
 
 pub pow_bit : (i : ℕ) → bit (2 ^ i) i ≡ 1
 unfolding bit
-pow_bit i = rw (div_self (pow_pos i))
+pow_bit i = bit_at-pow_same i
 
 pub pow_bit_other : (i j : ℕ) → (i ≡ j → ⊥) → bit (2 ^ i) j ≡ 0
-pow_bit_other zero zero ne = omega (arith, ne refl)
-pow_bit_other zero (suc j) ne = bit_suc (2 ^ 0) j ∙ bit_none j
-pow_bit_other (suc i) zero ne = bit_zero (2 ^ suc i) ∙ omega arith
-pow_bit_other (suc i) (suc j) ne =
-    let e : 2 ^ suc i / 2 ≡ 2 ^ i = omega arith in
-    bit_suc (2 ^ suc i) j ∙ rw e (pow_bit_other i j (λ p. ne (ap suc p)))
+unfolding bit
+pow_bit_other i j ne = bit_at-pow_other i j (λ e. ne (sym e))
 
 -- ---- or, and exclusive or, bit by bit
 
 or_bit : (a b j : ℕ) → bit (bit_or a b) j ≡ max (bit a j) (bit b j)
 unfolding bit
-or_bit a b j = rw (or_shr a b j) (omega (arith, or_step (a / 2 ^ j) (b / 2 ^ j)))
+or_bit a b j = bit_at_or a b j
 
-differ_lt : (x y : ℕ) → x < 2 → y < 2 → differ x y < 2
-differ_lt zero y p q = q
-differ_lt (suc x) zero p q = p
-differ_lt (suc zero) (suc y) p q = omega arith
-differ_lt (suc (suc x)) (suc y) p q = omega arith
-
-differ_zero : (x : ℕ) → differ x 0 ≡ x
-differ_zero zero = refl
-differ_zero (suc x) = refl
-
-xor_bit : (a b j : ℕ) → bit (bit_xor a b) j ≡ differ (bit a j) (bit b j)
+xor_bit : (a b j : ℕ) → bit (bit_xor a b) j ≡ (bit a j + bit b j) % 2
 unfolding bit
-xor_bit a b j =
-    rw (xor_shr a b j)
-    (omega (
-      arith,
-      xor_step (a / 2 ^ j) (b / 2 ^ j),
-      differ_lt (a / 2 ^ j % 2) (b / 2 ^ j % 2) (omega arith) (omega arith),
-    ))
+xor_bit a b j = bit_at_xor a b j
 
 -- ---- a bit set, a bit cleared
 
@@ -100,7 +80,7 @@ clear_bit_same m i = xor_bit (bit_or m (2 ^ i)) (2 ^ i) i ∙ rw (set_bit_same m
 pub clear_bit_other : (m i j : ℕ) → (i ≡ j → ⊥) → bit (clear_bit m i) j ≡ bit m j
 unfolding clear_bit set_bit
 clear_bit_other m i j ne =
-    xor_bit (bit_or m (2 ^ i)) (2 ^ i) j ∙ rw (set_bit_other m i j ne, pow_bit_other i j ne) (differ_zero (bit m j))
+    xor_bit (bit_or m (2 ^ i)) (2 ^ i) j ∙ omega (arith, set_bit_other m i j ne, pow_bit_other i j ne, bit_lt m j)
 
 -- a number of k bits keeps to k bits
 pub set_bit_lt : (k m i : ℕ) → m < 2 ^ k → i < k → set_bit m i < 2 ^ k

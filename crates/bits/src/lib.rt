@@ -3,18 +3,18 @@
 
 #![tactic(auto)]
 
-ghost use Rattle.std.specs.Prelude.{◌≡◌, ◌+◌, ◌-◌, ◌*◌, ◌≤◌, ◌<◌, length};
+ghost use Rattle.std.specs.Prelude.{◌≡◌, ◌+◌, ◌-◌, ◌*◌, ◌/◌, ◌%◌, ◌≤◌, ◌<◌, length};
 ghost use Rattle.choice.specs.Choice.{if_eq};
 ghost use Rattle.choice.specs.Says.{Says};
 ghost use Rattle.bits.specs.Bit.{bit, set_bit, clear_bit};
-ghost use Rattle.bits.specs.First.{first_set};
+ghost use Rattle.bits.specs.First.{first_set, Finds};
 ghost use Rattle.bits.specs.TableBit.{table_bit, set_table_bit, clear_table_bit};
 ghost use Rattle.bits.specs.Map.{map_words, lists, map_bit, mark_bit, unmark_bit};
 
 // The bits of a word.
 const BITS: usize = 64;
 
-// The lists that the map has a bit for; as an answer, none of them.
+// The lists that the map has a bit for.
 pub const LISTS: usize = 192;
 
 // The words of the map. In the table of the lists the heads stand behind them.
@@ -27,10 +27,7 @@ pub fn has_bit(m: u64, i: usize) -> bool
     requires { i < 64 }
     ensures { Says (bit m i ≡ 1) result }
 {
-    if (m >> i) % 2 == 1 {
-        return true;
-    }
-    false
+    (m >> i) % 2 == 1
 }
 
 // The word with bit i set.
@@ -50,16 +47,16 @@ pub fn without_bit(m: u64, i: usize) -> u64
     (m | b) ^ b
 }
 
-// The place of the lowest bit set at or above i, 64 where there is none.
-pub fn lowest_from(m: u64, i: usize) -> usize
+// The place of the lowest bit set at or above i.
+pub fn lowest_from(m: u64, i: usize) -> Option<usize>
     requires { i < 64 }
-    ensures { result ≡ first_set (bit m) (64 - i) i }
+    ensures { Finds 64 result (first_set (bit m) (64 - i) i) }
 {
     let rest = m >> i;
     if rest == 0 {
-        return BITS;
+        return None;
     }
-    i + u64::trailing_zeros(rest) as usize
+    Some(i + rest.trailing_zeros() as usize)
 }
 
 // ---- a table
@@ -97,10 +94,7 @@ pub fn is_marked(t: &[u64], k: usize) -> bool
     requires { (map_words ≤ length t.now) × (k < lists) }
     ensures { Says (map_bit t.now k ≡ 1) result }
 {
-    if table_bit(t, k) == 1 {
-        return true;
-    }
-    false
+    table_bit(t, k) == 1
 }
 
 // List k marked.
@@ -139,56 +133,35 @@ fn without_where(m: u64, i: usize, w: u64, n: u64) -> u64
     m
 }
 
-// The first marked list at or after k; the number of lists where there is none.
-pub fn first_marked(t: &[u64], k: usize) -> usize
+// The first marked list at or after k.
+pub fn first_marked(t: &[u64], k: usize) -> Option<usize>
     requires { (map_words ≤ length t.now) × (k ≤ lists) }
-    ensures { result ≡ first_set (map_bit t.now) (lists - k) k }
+    ensures { Finds lists result (first_set (map_bit t.now) (lists - k) k) }
 {
     if LISTS <= k {
-        return LISTS;
+        return None;
     }
+    first_of_word(t, k).or_else(|| first_behind(t, k / BITS))
+}
+
+// The same in the map's word of list k alone.
+fn first_of_word(t: &[u64], k: usize) -> Option<usize>
+    requires { (map_words ≤ length t.now) × (k < lists) }
+    ensures { Finds (64 * (k / 64 + 1)) result (first_set (map_bit t.now) (64 - k % 64) k) }
+{
     let i = k / BITS;
-    let rest = table::fetch(t, i) >> (k % BITS);
-    if rest == 0 {
-        return from_behind(t, i);
-    }
-    k + u64::trailing_zeros(rest) as usize
+    let b = lowest_from(table::fetch(t, i), k % BITS)?;
+    Some(BITS * i + b)
 }
 
-// The same from behind the map's word i.
-fn from_behind(t: &[u64], i: usize) -> usize
+// The same in the words behind the map's word i.
+fn first_behind(t: &[u64], i: usize) -> Option<usize>
     requires { (map_words ≤ length t.now) × (i < map_words) }
-    ensures { result ≡ first_set (map_bit t.now) (lists - 64 * (i + 1)) (64 * (i + 1)) }
+    ensures { Finds lists result (first_set (map_bit t.now) (lists - 64 * (i + 1)) (64 * (i + 1))) }
 {
-    if i == 0 {
-        return from_second(t);
+    match i {
+        0 => first_of_word(t, BITS).or_else(|| first_of_word(t, 2 * BITS)),
+        1 => first_of_word(t, 2 * BITS),
+        _ => None,
     }
-    if i == 1 {
-        return from_third(t);
-    }
-    LISTS
-}
-
-// The same from the map's second word on.
-fn from_second(t: &[u64]) -> usize
-    requires { map_words ≤ length t.now }
-    ensures { result ≡ first_set (map_bit t.now) (lists - 64) 64 }
-{
-    let r = lowest_from(table::fetch(t, 1), 0);
-    if r < BITS {
-        return BITS + r;
-    }
-    from_third(t)
-}
-
-// The same from its third and last word on.
-fn from_third(t: &[u64]) -> usize
-    requires { map_words ≤ length t.now }
-    ensures { result ≡ first_set (map_bit t.now) (lists - 128) 128 }
-{
-    let r = lowest_from(table::fetch(t, 2), 0);
-    if r < BITS {
-        return BITS * 2 + r;
-    }
-    LISTS
 }

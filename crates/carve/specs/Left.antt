@@ -1,6 +1,6 @@
 -- What a block that keeps some of its grains leaves, as the script answers it: nothing, or a free block at the head of its
 -- list, as that head is after the writes w. Each law is one return of the code.
-use Rattle.std.specs.Prelude.{ℕ, suc, ◌+◌, ◌-◌, ◌≤◌, ◌<◌, ◌≡◌, Bool, true, false}
+use Rattle.std.specs.Prelude.{ℕ, suc, ◌+◌, ◌-◌, ◌≤◌, ◌<◌, ◌≡◌}
 use Rattle.std.proofs.Common.{arith, ◌∙◌}
 use Rattle.std.proofs.Math.Path.{ap, sym}
 use mathlib.Core.List.{List, ◌++◌, append_assoc}
@@ -14,10 +14,7 @@ use Rattle.sound.specs.Checks.{must_list, see_head}
 use Rattle.sound.specs.Links.{push_writes}
 use Rattle.sound.specs.Plans.{split_writes, leave_script}
 use Rattle.slices.specs.Decode.{grains}
-use Rattle.free_list.specs.declared.Head.{Head}
 use Rattle.free_list.specs.Lent.{held, classes, link}
-use Rattle.free_list.specs.Answers.{answer}
-use Rattle.free_list.specs.Seen.{shown_head}
 use Rattle.carve.specs.Made.{left_behind}
 
 -- the block of t grains at x keeps m, after the writes w
@@ -48,21 +45,21 @@ module _ (a l v o : List ℕ) (w : List Write) (x t m : ℕ) where
         let c = held a l v o in
         sym (some ∙ halts c (must_list classes (t - m)) _ (halts_le c 5 (suc (list_of (t - m))) lists (omega arith)))
 
-    module _ (h : k < lists) (r : Head) (f : shown_head a r ≡ run (held a l v o) (see_head (grains 8 a) k)) where
+    module _ (h : k < lists) where
       listed : run (held a l v o) (leave_script (grains 8 a) classes w x t m) ≡ run (held a l v o) (headed k)
       listed =
           let c = held a l v o in
           some ∙ goes c (must_list classes (t - m)) _ (gives_le c 5 (suc (list_of (t - m))) lists (omega arith)) ∙ ap (λ (i : ℕ). run c (headed i)) (sym e)
 
       -- what is beside its head doesn't agree
-      pub left_headless : r.ok ≡ false → no 5 ≡ run (held a l v o) (leave_script (grains 8 a) classes w x t m)
-      left_headless b = sym (listed ∙ halts (held a l v o) (see_head (grains 8 a) k) _ (sym f ∙ ap (λ (z : Bool). answer z (link a r.word)) b))
+      pub left_headless : (r : ℕ) → no r ≡ run (held a l v o) (see_head (grains 8 a) k) → no r ≡ run (held a l v o) (leave_script (grains 8 a) classes w x t m)
+      left_headless r f = sym (listed ∙ halts (held a l v o) (see_head (grains 8 a) k) _ (sym f))
 
-      -- all agrees
-      pub left_listed : r.ok ≡ true → (y : ℕ) → link a y ≡ latest w Next (root k) (link a r.word)
+      -- all agrees: the head is z, and y after the writes
+      pub left_listed : (z y : ℕ) → ok (link a z) ≡ run (held a l v o) (see_head (grains 8 a) k) → link a y ≡ latest w Next (root k) (link a z)
           → ok (w ++ left_behind x t m k (link a y)) ≡ run (held a l v o) (leave_script (grains 8 a) classes w x t m)
-      left_listed b y d =
+      left_listed z y f d =
           let c = held a l v o in
           ap (λ (u : List Write). ok (w ++ u)) (eq_no m t _ _ n) ∙ ap ok (sym (append_assoc w (push_writes k (x + m) (link a y)) (split_writes x t m)))
-          ∙ ap (λ (z : ℕ). ok (split k z)) d
-          ∙ sym (listed ∙ goes c (see_head (grains 8 a) k) _ (sym f ∙ ap (λ (z : Bool). answer z (link a r.word)) b) ∙ gives_done c _)
+          ∙ ap (λ (i : ℕ). ok (split k i)) d
+          ∙ sym (listed ∙ goes c (see_head (grains 8 a) k) _ (sym f) ∙ gives_done c _)

@@ -13,6 +13,7 @@ ghost use Rattle.carve.specs.Made.{WrittenInArena, left_behind};
 use header::{BEFORE, PREV, SIZE};
 
 // The block of t grains at x is in use.
+#[tactic(auto, using(header::specs::Turned::grains_few, crate::specs::Made::put_grains))]
 pub fn put_whole(a: &mut [u8], x: usize, t: usize)
     requires { x + t < grains 8 a.old }
     ensures { WrittenInArena a.old (whole_writes x t) a.new }
@@ -22,6 +23,7 @@ pub fn put_whole(a: &mut [u8], x: usize, t: usize)
 }
 
 // Of the t grains at x the first m are a block in use, and the others a free block.
+#[tactic(auto, using(header::specs::Turned::grains_few, crate::specs::Made::put_grains))]
 pub fn put_split(a: &mut [u8], x: usize, t: usize, m: usize)
     requires { (m ≤ t) × (x + t < grains 8 a.old) }
     ensures { WrittenInArena a.old (split_writes x t m) a.new }
@@ -33,6 +35,7 @@ pub fn put_split(a: &mut [u8], x: usize, t: usize, m: usize)
 }
 
 // The pad of a payload at place d of the block at x, where it is of the large kind.
+#[tactic(auto, using(header::specs::Turned::grains_few))]
 pub fn put_pad(a: &mut [u8], x: usize, d: usize)
     requires { (0 < d) × (x + d / 2 < grains 8 a.old) }
     ensures { WrittenInArena a.old (pad_writes x d) a.new }
@@ -44,6 +47,7 @@ pub fn put_pad(a: &mut [u8], x: usize, d: usize)
 }
 
 // Of the t grains at x the first m are a block in use; the others, if any, a free block at the head of list q, before h.
+#[tactic(auto, using(header::specs::Turned::grains_few))]
 pub fn put_left(a: &mut [u8], lists: &mut [u64], x: usize, t: usize, m: usize, q: usize, h: u64)
     requires { (m ≤ t) × (x + t < grains 8 a.old) × ((m ≡ t → ⊥) → Room q lists.old × Leads a.old h) }
     ensures { Written a.old lists.old

@@ -1,6 +1,6 @@
 -- Tests on numbers as functions (`if_eq`, `if_le`), and the function that differs from another at one place (`upd`).
 -- All three are shut: a proof goes by their laws, so that a goal shows the choice and not how it is made.
-use Rattle.std.specs.Prelude.{ℕ, zero, ◌≤◌, ◌<◌, ◌≡◌, ◌⊎◌}
+use Rattle.std.specs.Prelude.{ℕ, ◌≤◌, ◌<◌, ◌≡◌, ◌⊎◌}
 use Rattle.std.proofs.Common.{sym, subst, inl, inr, ⊎_elim, arith}
 use Rattle.std.proofs.Math.Logic.{ite, if_pos, if_neg}
 use Rattle.std.proofs.Math.Decide.{ℕ_discrete, dec_le}

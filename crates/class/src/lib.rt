@@ -12,7 +12,7 @@ fn top_bit(x: u64) -> u64
     requires { 0 < x }
     ensures { result ≡ log x }
 {
-    63 - (u64::leading_zeros(x) as u64)
+    u64::from(x.ilog2())
 }
 
 // The list of a free block of s grains: sixteenths of its class, rounded down.

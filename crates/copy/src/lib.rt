@@ -48,10 +48,8 @@ fn grains_ascending(a: &mut [u8], from: usize, to: usize, n: usize)
     requires { Ascends from to (32 * n) × (from + 32 * n ≤ length a.old) × (to + 32 * n ≤ length a.old) }
     ensures { Moved a.old from to (32 * n) a.new }
 {
-    let mut i = 0;
-    while i < n {
+    for i in 0..n {
         move_grain(a, from + GRAIN * i, to + GRAIN * i);
-        i += 1;
     }
 }
 
@@ -71,10 +69,8 @@ fn grains_descending(a: &mut [u8], from: usize, to: usize, n: usize)
     requires { (from ≤ to) × (to + 32 * n ≤ length a.old) }
     ensures { Moved a.old from to (32 * n) a.new }
 {
-    let mut left = n;
-    while left > 0 {
-        left -= 1;
-        move_grain(a, from + GRAIN * left, to + GRAIN * left);
+    for i in (0..n).rev() {
+        move_grain(a, from + GRAIN * i, to + GRAIN * i);
     }
 }
 

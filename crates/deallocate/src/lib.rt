@@ -3,33 +3,30 @@
 
 #![tactic(auto)]
 
-ghost use Rattle.std.specs.Prelude.{◌≡◌, true, ◌+◌, ◌*◌, ◌≤◌, ◌<◌, length};
+ghost use Rattle.std.specs.Prelude.{◌≡◌, Ok, ◌+◌, ◌*◌, ◌≤◌, ◌<◌, length};
 ghost use Rattle.sound.specs.Plans.{join_script};
 ghost use Rattle.slices.specs.Decode.{grains};
 ghost use Rattle.free_list.specs.Written.{WrittenLive};
 ghost use Rattle.free_list.specs.Lent.{classes, Long};
-ghost use Rattle.neighbours.specs.Leaving.{Known, both_leaving, behind_of};
-ghost use Rattle.neighbours.specs.Shown.{SeenBefore};
+ghost use Rattle.neighbours.specs.Leaving.{Known, both_leaving};
+ghost use Rattle.neighbours.specs.Shown.{seen_of, SeenBefore};
 ghost use Rattle.neighbours.specs.Within.{Behind};
 ghost use Rattle.deallocate.specs.Shown.{back_writes, joined_writes, Able, AbleHere, Standing, Planned, BackPlanned, before_script, merge_script};
 ghost use Rattle.deallocate.specs.Written.{freed};
 
 use bits::LISTS;
-use header::{BEFORE, NONE, SIZE};
-use neighbours::{Beside, Neighbour};
+use header::{BEFORE, SIZE};
+use neighbours::Neighbour;
+use refusal::Refusal;
 
-// The records contradict each other.
-const DAMAGED: u64 = 5;
-
-// Why the call is refused, unless with 0; the joined block, the neighbours that leave, in this order, and the list to which
-// it goes, with the head that it is put before.
-#[derive(Clone, Copy)]
+// The joined block, the neighbours that leave, in this order, and the list to which it goes, with the head that it is put
+// before.
+#[derive(Clone, Copy, Debug, PartialEq, Eq)]
 pub struct Plan {
-    pub refusal: u64,
     pub at: usize,
     pub grains: usize,
-    pub behind: Neighbour,
-    pub before: Neighbour,
+    pub behind: Option<Neighbour>,
+    pub before: Option<Neighbour>,
     pub list: usize,
     pub head: u64,
 }
@@ -37,68 +34,64 @@ pub struct Plan {
 // ---- the plan
 
 // The payload at q, counted in half grains, is returned.
-pub fn plan_back(a: &[u8], lists: &[u64], live: &[u64], q: usize) -> Plan
+pub fn plan_back(a: &[u8], lists: &[u64], live: &[u64], q: usize) -> Result<Plan, Refusal>
     requires { (q < 64 * length live.now) × (q < 2 * grains 8 a.now) × Long lists.now }
     ensures { BackPlanned a.now lists.now live.now q result }
 {
-    let o = neighbours::see_owner(a, live, q);
-    if o.refusal != 0 {
-        return refused(o.refusal);
-    }
+    let o = neighbours::see_owner(a, live, q)?;
     plan_merge(a, lists, o.at, o.grains)
 }
 
 // The used block of s grains at x is joined with its free neighbours. The one before it is seen first, as the words of both
 // are then fetched at once. What follows is called in two branches, where nobody is before it and where a free block is, so
 // that neither asks for it again.
-fn plan_merge(a: &[u8], lists: &[u64], x: usize, s: usize) -> Plan
+fn plan_merge(a: &[u8], lists: &[u64], x: usize, s: usize) -> Result<Plan, Refusal>
     requires { (1 ≤ s) × (x + s < grains 8 a.now) × Long lists.now }
     ensures { Planned a.now lists.now (λ q. merge_script (grains 8 a.now) q x s) result }
 {
-    let before = neighbours::see_before(a, lists, x);
-    if !before.ok {
-        return refused(DAMAGED);
+    match neighbours::see_before(a, lists, x)? {
+        None => plan_behind(a, lists, x, s, None),
+        Some(f) => plan_behind(a, lists, x, s, Some(f)),
     }
-    if before.grains == 0 {
-        return plan_behind(a, lists, x, s, neighbours::nobody(true));
-    }
-    plan_behind(a, lists, x, s, before)
 }
 
 // The same, where f was seen before it.
-fn plan_behind(a: &[u8], lists: &[u64], x: usize, s: usize, f: Beside) -> Plan
-    requires { (1 ≤ s) × (x + s < grains 8 a.now) × Long lists.now × SeenBefore a.now lists.now x f × (f.ok ≡ true) }
+fn plan_behind(
+    a: &[u8],
+    lists: &[u64],
+    x: usize,
+    s: usize,
+    f: Option<Neighbour>,
+) -> Result<Plan, Refusal>
+    requires { (1 ≤ s) × (x + s < grains 8 a.now) × Long lists.now × SeenBefore a.now lists.now x (Ok f) }
     ensures { Planned a.now lists.now (λ q. merge_script (grains 8 a.now) q x s) result }
 {
-    let e = neighbours::see_behind(a, lists, x + s);
-    if !e.ok {
-        return refused(DAMAGED);
+    match neighbours::see_behind(a, lists, x + s)? {
+        None => plan_both(a, lists, x, s, None, f),
+        Some(e) => plan_both(a, lists, x, s, Some(e), f),
     }
-    if e.grains == 0 {
-        return plan_both(a, lists, x, s, neighbours::no_neighbour(), f);
-    }
-    let behind = Neighbour {
-        grains: e.grains,
-        list: e.list,
-        next: e.next,
-        prev: e.prev,
-    };
-    plan_both(a, lists, x, s, behind, f)
 }
 
 // The same, where what stands behind it was seen, and f before it.
-fn plan_both(a: &[u8], lists: &[u64], x: usize, s: usize, behind: Neighbour, f: Beside) -> Plan
-    requires { (1 ≤ s) × Behind a.now x s behind × Long lists.now × SeenBefore a.now lists.now x f × (f.ok ≡ true) }
+fn plan_both(
+    a: &[u8],
+    lists: &[u64],
+    x: usize,
+    s: usize,
+    behind: Option<Neighbour>,
+    f: Option<Neighbour>,
+) -> Result<Plan, Refusal>
+    requires { (1 ≤ s) × Behind a.now x s behind × Long lists.now × SeenBefore a.now lists.now x (Ok f) }
     ensures { Planned a.now lists.now
-        (λ q. before_script (grains 8 a.now) q x s (behind_of a.now behind)) result }
+        (λ q. before_script (grains 8 a.now) q x s (seen_of a.now behind)) result }
 {
-    let t = s + behind.grains;
-    if f.grains == 0 {
-        return plan_join(a, lists, x, t, behind, neighbours::no_neighbour());
-    }
-    let z = x - f.grains;
-    let before = neighbours::second(behind, z, f);
-    plan_join(a, lists, z, f.grains + t, behind, before)
+    let t = s + neighbours::grains_of(behind);
+    let Some(n) = f else {
+        return plan_join(a, lists, x, t, behind, None);
+    };
+    let z = x - n.grains;
+    let before = neighbours::second(behind, z, n);
+    plan_join(a, lists, z, n.grains + t, behind, Some(before))
 }
 
 // The joined block of t grains at z goes to its list, after both neighbours left.
@@ -107,46 +100,27 @@ fn plan_join(
     lists: &[u64],
     z: usize,
     t: usize,
-    behind: Neighbour,
-    before: Neighbour,
-) -> Plan
+    behind: Option<Neighbour>,
+    before: Option<Neighbour>,
+) -> Result<Plan, Refusal>
     requires { (1 ≤ t) × (z + t < grains 8 a.now) × Long lists.now × Known a.now behind × Known a.now before × Standing a.now z t behind before }
     ensures { Planned a.now lists.now
         (λ q. join_script (grains 8 a.now) classes q z t (both_leaving a.now behind before)) result }
 {
     let list = class::map_floor(t as u64) as usize;
     if LISTS <= list {
-        return refused(DAMAGED);
+        return Err(Refusal::Damaged);
     }
-    let h = free_list::see_head(a, lists, list);
-    if !h.ok {
-        return refused(DAMAGED);
-    }
-    let head = neighbours::head_after_both(behind, before, list, h.word);
-    Plan {
-        refusal: 0,
+    let h = free_list::see_head(a, lists, list)?;
+    let head = neighbours::head_after_both(behind, before, list, h);
+    Ok(Plan {
         at: z,
         grains: t,
         behind,
         before,
         list,
         head,
-    }
-}
-
-// A refusal, with nothing planned.
-fn refused(why: u64) -> Plan
-    ensures { result.refusal ≡ why }
-{
-    Plan {
-        refusal: why,
-        at: 0,
-        grains: 0,
-        behind: neighbours::no_neighbour(),
-        before: neighbours::no_neighbour(),
-        list: 0,
-        head: NONE,
-    }
+    })
 }
 
 // ---- what is written
@@ -158,22 +132,19 @@ pub fn apply_now(a: &mut [u8], lists: &mut [u64], live: &mut [u64], q: usize, p:
     ensures { WrittenLive a.old lists.old live.old (back_writes a.old q p)
         a.new lists.new live.new }
 {
-    if p.behind.grains == 0 {
-        if p.before.grains == 0 {
-            put_joined(a, lists, live, q, p);
-            return;
+    match (p.behind, p.before) {
+        (None, None) => put_joined(a, lists, live, q, p),
+        (None, Some(f)) => {
+            free_list::unlink_at(a, lists, f.list, f.next, f.prev, p.at);
+            put_joined(a, lists, live, q, p)
         }
-        free_list::unlink_at(a, lists, p.before.list, p.before.next, p.before.prev, p.at);
-        put_joined(a, lists, live, q, p);
-        return;
+        (Some(e), None) => {
+            let y = p.at + p.grains - e.grains;
+            free_list::unlink_at(a, lists, e.list, e.next, e.prev, y);
+            put_joined(a, lists, live, q, p)
+        }
+        (Some(_), Some(_)) => apply_later(a, lists, live, q, p),
     }
-    if p.before.grains == 0 {
-        let y = p.at + p.grains - p.behind.grains;
-        free_list::unlink_at(a, lists, p.behind.list, p.behind.next, p.behind.prev, y);
-        put_joined(a, lists, live, q, p);
-        return;
-    }
-    apply_later(a, lists, live, q, p);
 }
 
 // The same, whatever was written since, such as a payload that was carried elsewhere: nothing is known of the words.

@@ -7,7 +7,7 @@ use Rattle.choice.specs.Says.{Says}
 use Rattle.bits.specs.Map.{map_bit}
 use Rattle.bits.proofs.Map.{map_bit_lt}
 use Rattle.script.specs.Memory.{Memory, Next, Prev, Mark}
-use Rattle.script.specs.Script.{Script, ok, run, ◌>>=◌, ◌>>◌, must_eq, must_le}
+use Rattle.script.specs.Script.{Script, ok, run, ◌>>=◌, must_eq, must_le}
 use Rattle.script.proofs.Script.{reads, gives_done}
 use Rattle.tags.specs.Tag.{Tag, flags, START, FREE, SMALL}
 use Rattle.tags.specs.Decode.{Busy}

@@ -6,29 +6,48 @@
 
 #![tactic(auto)]
 
-ghost use Rattle.std.specs.Prelude.{◌≡◌, List, ℕ, ◌+◌, ◌-◌, ◌≤◌, ◌<◌, length};
+ghost use Rattle.std.specs.Prelude.{IfOk, ◌≡◌, List, ℕ, ◌+◌, ◌-◌, ◌≤◌, ◌<◌, length};
 ghost use Rattle.choice.specs.Choice.{if_eq};
 ghost use Rattle.choice.specs.Says.{Says};
 ghost use Rattle.class.specs.Class.{list_of};
 ghost use Rattle.bits.specs.Map.{map_bit};
 ghost use Rattle.script.specs.Script.{run};
-ghost use Rattle.machine.specs.Machine.{classes, piece};
+ghost use Rattle.machine.specs.Machine.{classes, piece, words, map_words};
 ghost use Rattle.machine.specs.Machine.{lists as list_count};
 ghost use Rattle.chains.specs.Links.{mark_left};
 ghost use Rattle.chains.specs.Steps.{Step};
 ghost use Rattle.plans.specs.Checks.{see_free, see_entry, see_head, see_rest, see_join};
 ghost use Rattle.lent.specs.Slices.{grains, put_next, put_prev, head_at, put_head, put_mark};
-ghost use Rattle.entries.specs.Answers.{held, verdict, told, chosen, Long, Enough};
+ghost use Rattle.refusal.specs.Answered.{answered};
+ghost use Rattle.entries.specs.Answers.{chosen, Long};
 ghost use Rattle.entries.specs.Agrees.{Begins};
 ghost use Rattle.entries.specs.Stepped.{Stepped, Leaves, Enters};
 
 use machine::PIECE;
+use refusal::Refusal;
 
-// A free block's grains, or the tags contradict each other.
+// The arena and the tags of its grains, while they are only read.
 #[derive(Clone, Copy)]
-pub enum Found {
-    Grains(usize),
-    Bad,
+pub struct Tagged<'a> {
+    pub arena: &'a [u8],
+    pub tags: &'a [u16],
+    pub ghost sized: { length arena.now < words },
+    pub ghost covered: { grains arena.now < length tags.now },
+}
+
+// All lent slices, while they are only read: those, and the lists.
+#[derive(Clone, Copy)]
+pub struct Lent<'a> {
+    pub tagged: Tagged<'a>,
+    pub lists: &'a [u64],
+    pub ghost listed: { map_words + list_count ≤ length lists.now },
+}
+
+// The arena and the lists, while blocks leave and enter lists.
+#[derive(Drop)]
+pub struct Links<'a> {
+    pub arena: &'a mut [u8],
+    pub lists: &'a mut [u64],
 }
 
 // ---- choices
@@ -37,110 +56,7 @@ pub enum Found {
 pub fn choose(c: bool, x: u64, y: u64) -> u64
     ensures { result ≡ chosen c x y }
 {
-    if c {
-        return x;
-    }
-    y
-}
-
-// ---- free blocks
-
-// Whether a free block starts at x.
-pub fn begins_free(a: &[u8], tags: &[u16], x: u64) -> bool
-    requires { grains a.now < length tags.now }
-    ensures { Says (Begins a.now tags.now x) result }
-{
-    if lent::grain_count(a) as u64 <= x {
-        return false;
-    }
-    if lent::starts_free(lent::tag(tags, x as usize)) {
-        return true;
-    }
-    false
-}
-
-// The free block at x: its last grain has the same size, and a block that is not free follows it.
-pub fn see_free(a: &[u8], tags: &[u16], x: u64) -> Found
-    requires { grains a.now < length tags.now }
-    ensures { (l g : List ℕ) → run (held a.now l tags.now g) (see_free (grains a.now) x) ≡ told result }
-{
-    let n = lent::grain_count(a);
-    if n as u64 <= x {
-        return Found::Bad;
-    }
-    let y = x as usize;
-    let first = lent::tag(tags, y);
-    if !lent::starts_free(first) {
-        return Found::Bad;
-    }
-    let s = lent::count(first);
-    if n <= y + s {
-        return Found::Bad;
-    }
-    if !lent::ends_free(lent::tag(tags, y + s - 1), s) {
-        return Found::Bad;
-    }
-    if !lent::is_busy(lent::tag(tags, y + s)) {
-        return Found::Bad;
-    }
-    Found::Grains(s)
-}
-
-// ---- entries and heads
-
-// Whether the free block y stands in list k: its links lead to free blocks and back, and it is the head exactly if it is its
-// own previous.
-pub fn see_entry(a: &[u8], lists: &[u64], tags: &[u16], k: usize, y: usize) -> bool
-    requires { Enough a.now lists.now tags.now × (k < list_count) × (y < grains a.now) }
-    ensures { (g : List ℕ) → run (held a.now lists.now tags.now g)
-        (see_entry (grains a.now) k y) ≡ verdict result }
-{
-    let own = y as u64;
-    let next = lent::next(a, y);
-    let prev = lent::prev(a, y);
-    if !begins_free(a, tags, next) {
-        return false;
-    }
-    if lent::prev(a, next as usize) != choose(next == own, prev, own) {
-        return false;
-    }
-    if !begins_free(a, tags, prev) {
-        return false;
-    }
-    if lent::next(a, prev as usize) != choose(prev == own, next, own) {
-        return false;
-    }
-    if !lent::is_marked(lists, k) {
-        return false;
-    }
-    if choose(lent::head(lists, k) == own, 1, 0) != choose(prev == own, 1, 0) {
-        return false;
-    }
-    true
-}
-
-// Whether a block can enter list k: it has no mark, or its head is a free block and its own previous. The grain y is read if
-// there is no head; it may be any.
-pub fn see_head(a: &[u8], lists: &[u64], tags: &[u16], k: usize, y: usize) -> bool
-    requires { Enough a.now lists.now tags.now × (k < list_count) × (y < grains a.now) }
-    ensures { (g : List ℕ) → run (held a.now lists.now tags.now g)
-        (see_head (grains a.now) k) ≡ verdict result }
-{
-    let head = lent::head(lists, k);
-    let marked = lent::is_marked(lists, k);
-    let first = choose(marked, head, y as u64);
-    let n = lent::grain_count(a) as u64;
-    if n <= first {
-        return false;
-    }
-    let free = lent::starts_free(lent::tag(tags, first as usize));
-    let back = lent::prev(a, first as usize);
-    let own = lent::prev(a, y);
-    // n is no grain, so no link that is checked is n.
-    if choose(free, back, n) != choose(marked, first, choose(free, own, n)) {
-        return false;
-    }
-    true
+    if c { x } else { y }
 }
 
 // The list of s grains.
@@ -151,45 +67,162 @@ pub fn list_of(s: usize) -> usize
     class::map_floor(s as u64) as usize
 }
 
-// Whether t grains have a list, of which k are kept and the rest, if any, can enter its list. The grain y may be any.
-pub fn see_rest(a: &[u8], lists: &[u64], tags: &[u16], t: usize, k: usize, y: usize) -> bool
-    requires { Enough a.now lists.now tags.now × (0 < t) × (k ≤ t) × (y < grains a.now) }
-    ensures { (g : List ℕ) → run (held a.now lists.now tags.now g)
-        (see_rest (grains a.now) classes t k) ≡ verdict result }
-{
-    if PIECE <= t {
-        return false;
+// ---- checks
+
+impl Tagged<'_> {
+    ghost use Rattle.entries.specs.Lent.{tagged_memory, tagged_grains};
+
+    // Whether a free block starts at x.
+    pub fn begins_free(&self, x: u64) -> bool
+        ensures { Says (Begins self.now.arena.now self.now.tags.now x) result }
+    {
+        x < lent::grain_count(self.arena) as u64
+            && lent::starts_free(lent::tag(self.tags, x as usize))
     }
-    if k == t {
-        return true;
+
+    // The free block at x: its last grain has the same size, and a block that is not free follows it. How many grains it has.
+    pub fn see_free(&self, x: u64) -> Result<usize, Refusal>
+        ensures seen { (l g : List ℕ) → run (tagged_memory self.now l g) (see_free (tagged_grains self.now) x) ≡ answered result }
+        ensures counted { IfOk result (λ s. (0 < s) × (s < piece)) }
+    {
+        let n = lent::grain_count(self.arena);
+        if n as u64 <= x {
+            return Err(Refusal::Damaged);
+        }
+        let y = x as usize;
+        let first = lent::tag(self.tags, y);
+        if !lent::starts_free(first) {
+            return Err(Refusal::Damaged);
+        }
+        let s = lent::count(first);
+        if n <= y + s {
+            return Err(Refusal::Damaged);
+        }
+        if !lent::ends_free(lent::tag(self.tags, y + s - 1), s) {
+            return Err(Refusal::Damaged);
+        }
+        if !lent::is_busy(lent::tag(self.tags, y + s)) {
+            return Err(Refusal::Damaged);
+        }
+        Ok(s)
     }
-    see_head(a, lists, tags, list_of(t - k), y)
 }
 
-// Whether t grains have a list, which a block can enter. The grain y may be any.
-pub fn see_join(a: &[u8], lists: &[u64], tags: &[u16], t: usize, y: usize) -> bool
-    requires { Enough a.now lists.now tags.now × (0 < t) × (y < grains a.now) }
-    ensures { (g : List ℕ) → run (held a.now lists.now tags.now g)
-        (see_join (grains a.now) classes t) ≡ verdict result }
-{
-    if PIECE <= t {
-        return false;
+impl Lent<'_> {
+    ghost use Rattle.entries.specs.Lent.{memory_in, grains_in};
+
+    // The free block y stands in list k: its links lead to free blocks and back, and it is the head exactly if it is its own
+    // previous.
+    pub fn see_entry(&self, k: usize, y: usize) -> Result<(), Refusal>
+        requires { (k < list_count) × (y < grains_in self.now) }
+        ensures { (g : List ℕ) → run (memory_in self.now g) (see_entry (grains_in self.now) k y) ≡ answered result }
+    {
+        let own = y as u64;
+        let next = lent::next(self.tagged.arena, y);
+        let prev = lent::prev(self.tagged.arena, y);
+        if !self.tagged.begins_free(next) {
+            return Err(Refusal::Damaged);
+        }
+        if lent::prev(self.tagged.arena, next as usize) != choose(next == own, prev, own) {
+            return Err(Refusal::Damaged);
+        }
+        if !self.tagged.begins_free(prev) {
+            return Err(Refusal::Damaged);
+        }
+        if lent::next(self.tagged.arena, prev as usize) != choose(prev == own, next, own) {
+            return Err(Refusal::Damaged);
+        }
+        if !lent::is_marked(self.lists, k) {
+            return Err(Refusal::Damaged);
+        }
+        if choose(lent::head(self.lists, k) == own, 1, 0) != choose(prev == own, 1, 0) {
+            return Err(Refusal::Damaged);
+        }
+        Ok(())
     }
-    see_head(a, lists, tags, list_of(t), y)
+
+    // A block can enter list k: it has no mark, or its head is a free block and its own previous. The grain y is read if there
+    // is no head; it may be any.
+    pub fn see_head(&self, k: usize, y: usize) -> Result<(), Refusal>
+        requires { (k < list_count) × (y < grains_in self.now) }
+        ensures { (g : List ℕ) → run (memory_in self.now g) (see_head (grains_in self.now) k) ≡ answered result }
+    {
+        let head = lent::head(self.lists, k);
+        let marked = lent::is_marked(self.lists, k);
+        let first = choose(marked, head, y as u64);
+        let n = lent::grain_count(self.tagged.arena) as u64;
+        if n <= first {
+            return Err(Refusal::Damaged);
+        }
+        let free = lent::starts_free(lent::tag(self.tagged.tags, first as usize));
+        let back = lent::prev(self.tagged.arena, first as usize);
+        let own = lent::prev(self.tagged.arena, y);
+        // n is no grain, so no link that is checked is n.
+        if choose(free, back, n) != choose(marked, first, choose(free, own, n)) {
+            return Err(Refusal::Damaged);
+        }
+        Ok(())
+    }
+
+    // There is a list for t grains, of which k are kept and the rest, if any, can enter its list. The grain y may be any.
+    pub fn see_rest(&self, t: usize, k: usize, y: usize) -> Result<(), Refusal>
+        requires { (0 < t) × (k ≤ t) × (y < grains_in self.now) }
+        ensures { (g : List ℕ) → run (memory_in self.now g) (see_rest (grains_in self.now) classes t k) ≡ answered result }
+    {
+        if PIECE <= t {
+            return Err(Refusal::Damaged);
+        }
+        if k == t {
+            return Ok(());
+        }
+        self.see_head(list_of(t - k), y)
+    }
+
+    // There is a list for t grains, which a block can enter. The grain y may be any.
+    pub fn see_join(&self, t: usize, y: usize) -> Result<(), Refusal>
+        requires { (0 < t) × (y < grains_in self.now) }
+        ensures { (g : List ℕ) → run (memory_in self.now g) (see_join (grains_in self.now) classes t) ≡ answered result }
+    {
+        if PIECE <= t {
+            return Err(Refusal::Damaged);
+        }
+        self.see_head(list_of(t), y)
+    }
 }
 
 // ---- writes
 
-// Block y leaves list k.
-pub fn leave(a: &mut [u8], lists: &mut [u64], k: usize, y: usize)
-    requires { Long lists.old × (k < list_count) × (y < grains a.old) × Leaves a.old y }
-    ensures { Stepped (Step.leave k y) a.old lists.old a.new lists.new }
-{
-    let own = y as u64;
-    let next = lent::next(a, y);
-    let prev = lent::prev(a, y);
-    join_links(a, own, next, prev);
-    join_head(lists, k, own, next, prev);
+impl Links<'_> {
+    ghost use Rattle.entries.specs.Lent.{SameLinks};
+
+    // Block y leaves list k.
+    pub fn leave(&mut self, k: usize, y: usize)
+        requires { Long self.old.lists.now × (k < list_count) × (y < grains self.old.arena.now) × Leaves self.old.arena.now y }
+        ensures stepped { Stepped (Step.leave k y) self.old.arena.now self.old.lists.now self.new.arena.now self.new.lists.now }
+        ensures same { SameLinks self.old self.new }
+    {
+        let a = &mut *self.arena;
+        let own = y as u64;
+        let next = lent::next(a, y);
+        let prev = lent::prev(a, y);
+        join_links(a, own, next, prev);
+        join_head(&mut *self.lists, k, own, next, prev);
+    }
+
+    // Block y enters list k.
+    pub fn enter(&mut self, k: usize, y: usize)
+        requires { Long self.old.lists.now × (k < list_count) × (y < grains self.old.arena.now) × Enters self.old.arena.now self.old.lists.now k }
+        ensures stepped { Stepped (Step.enter k y) self.old.arena.now self.old.lists.now self.new.arena.now self.new.lists.now }
+        ensures same { SameLinks self.old self.new }
+    {
+        let lists = &mut *self.lists;
+        let own = y as u64;
+        let head = lent::head(lists, k);
+        let first = choose(lent::is_marked(lists, k), head, own);
+        put_before(&mut *self.arena, y, first);
+        lent::put_head(lists, k, own);
+        lent::mark(lists, k);
+    }
 }
 
 // The blocks x, after y, and p, before it, are linked with each other; with itself if y stands there.
@@ -211,19 +244,6 @@ fn join_head(lists: &mut [u64], k: usize, y: u64, x: u64, p: u64)
     lent::put_head(lists, k, choose(p == y, x, head));
     // The value is y exactly if both links are.
     bits::unmark_where(lists, k, choose(p == y, x, p), y);
-}
-
-// Block y enters list k.
-pub fn enter(a: &mut [u8], lists: &mut [u64], k: usize, y: usize)
-    requires { Long lists.old × (k < list_count) × (y < grains a.old) × Enters a.old lists.old k }
-    ensures { Stepped (Step.enter k y) a.old lists.old a.new lists.new }
-{
-    let own = y as u64;
-    let head = lent::head(lists, k);
-    let first = choose(lent::is_marked(lists, k), head, own);
-    put_before(a, y, first);
-    lent::put_head(lists, k, own);
-    lent::mark(lists, k);
 }
 
 // Block y is put before h, with nothing before it; h may be y.

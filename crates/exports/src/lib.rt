@@ -6,39 +6,21 @@
 ghost use Rattle.std.specs.Prelude.{◌≡◌, ◌+◌};
 ghost use Rattle.bits.specs.Map.{map_words, lists as list_count};
 ghost use Rattle.tables.specs.Length.{live_length};
-ghost use Rattle.firmheap.specs.Replies.{taken, done, given};
+ghost use Rattle.firmheap.specs.Replies.{taken};
 ghost use Rattle.exports.specs.Answers.{number_of};
 ghost use Rattle.exports.specs.Contract.{InitAnswers, InsertAnswers, AppendAnswers, AllocateAnswers, DeallocateAnswers, ReallocateAnswers};
 
+use refusal::Refusal;
+
 // ---- an answer as a number
 
-// A payload's offset, or a refusal.
-fn of_taken(answer: firmheap::Taken) -> u64
+// What was granted, or the number of a refusal.
+fn number(answer: Result<usize, Refusal>) -> u64
     ensures { result ≡ number_of (taken answer) }
 {
     match answer {
-        firmheap::Taken::At(x) => x as u64,
-        firmheap::Taken::Refused(i) => i,
-    }
-}
-
-// Done is 0.
-fn of_done(answer: firmheap::Done) -> u64
-    ensures { result ≡ number_of (done answer) }
-{
-    match answer {
-        firmheap::Done::Yes => 0,
-        firmheap::Done::Refused(i) => i,
-    }
-}
-
-// The bytes used of a region, or a refusal.
-fn of_given(answer: firmheap::Given) -> u64
-    ensures { result ≡ number_of (given answer) }
-{
-    match answer {
-        firmheap::Given::Bytes(n) => n as u64,
-        firmheap::Given::Refused(i) => i,
+        Ok(x) => x as u64,
+        Err(refusal) => u64::from(refusal),
     }
 }
 
@@ -65,7 +47,7 @@ pub fn firmheap_init(arena: &[u8], lists: &mut [u64], live: &mut [u64], regions:
     ensures { InitAnswers arena.now lists.old live.old regions.old result
         lists.new live.new regions.new }
 {
-    of_done(firmheap::init(arena, lists, live, regions))
+    number(firmheap::init(arena, lists, live, regions).and(Ok(0)))
 }
 
 // The bytes used from `start` on, 64 or more, or a refusal.
@@ -79,7 +61,7 @@ pub fn firmheap_insert_free_block(
     ensures { InsertAnswers arena.old lists.old regions.old start len result
         arena.new lists.new regions.new }
 {
-    of_given(firmheap::insert_free_block(arena, lists, regions, start, len))
+    number(firmheap::insert_free_block(arena, lists, regions, start, len))
 }
 
 // The same of a region that begins where another ended.
@@ -93,7 +75,7 @@ pub fn firmheap_append_free_block(
     ensures { AppendAnswers arena.old lists.old regions.old start len result
         arena.new lists.new regions.new }
 {
-    of_given(firmheap::append_free_block(arena, lists, regions, start, len))
+    number(firmheap::append_free_block(arena, lists, regions, start, len))
 }
 
 // ---- payloads
@@ -109,7 +91,7 @@ pub fn firmheap_allocate(
     ensures { AllocateAnswers arena.old lists.old live.old size align result
         arena.new lists.new live.new }
 {
-    of_taken(firmheap::allocate(arena, lists, live, size, align))
+    number(firmheap::allocate(arena, lists, live, size, align))
 }
 
 // 0, or a refusal.
@@ -123,7 +105,7 @@ pub fn firmheap_deallocate(
     ensures { DeallocateAnswers arena.old lists.old live.old payload align result
         arena.new lists.new live.new }
 {
-    of_done(firmheap::deallocate(arena, lists, live, payload, align))
+    number(firmheap::deallocate(arena, lists, live, payload, align).and(Ok(0)))
 }
 
 // The payload's offset from now on, 16 or more, or a refusal.
@@ -138,5 +120,5 @@ pub fn firmheap_reallocate(
     ensures { ReallocateAnswers arena.old lists.old live.old payload size align result
         arena.new lists.new live.new }
 {
-    of_taken(firmheap::reallocate(arena, lists, live, payload, size, align))
+    number(firmheap::reallocate(arena, lists, live, payload, size, align))
 }

@@ -1,5 +1,5 @@
 -- The empty heap: refused where a table is too short, or the tables are made empty.
-use Rattle.std.specs.Prelude.{ℕ, ◌^◌, ◌≤◌, ◌<◌, ◌≡◌, refl, List, length}
+use Rattle.std.specs.Prelude.{ℕ, ◌^◌, ◌≤◌, ◌<◌, refl, List, length}
 use Rattle.std.proofs.Common.{arith}
 use Rattle.sound.specs.Runs.{yes, not}
 use Rattle.free_list.specs.Lent.{lent}

@@ -1,5 +1,5 @@
 -- Giving a region: which calls ask for it, and that plan and apply make them.
-use Rattle.std.specs.Prelude.{ℕ, ◌+◌, ◌-◌, ◌*◌, ◌/◌, ◌^◌, ◌≤◌, ◌<◌, ◌≡◌, refl, List, [], length}
+use Rattle.std.specs.Prelude.{ℕ, ◌+◌, ◌-◌, ◌*◌, ◌/◌, ◌^◌, ◌≤◌, ◌<◌, ◌≡◌, refl, List, [], length, Result, Ok, Err}
 use Rattle.std.proofs.Common.{arith, ap, sym, ◌∙◌, subst}
 use Rattle.table.specs.Table.{entry}
 use Rattle.bits.specs.Map.{map_words}
@@ -14,7 +14,8 @@ use Rattle.sound.specs.Runs.{Reply, yes, not}
 use Rattle.slices.specs.Decode.{grains}
 use Rattle.slices.specs.Slices.{Slices, memory_of, stores}
 use Rattle.free_list.specs.Lent.{lent}
-use Rattle.free_list.specs.Answers.{unless_no, unless_ok}
+use Rattle.refusal.specs.Number.{number}
+use Rattle.refusal.specs.declared.Refusal.{Refusal}
 use Rattle.calls.specs.Bytes.{ByteCall, insert, append, following, Asks, give, follow, bytes, in_bytes}
 use Rattle.calls.proofs.Promised.{promised}
 use Rattle.firmheap.specs.Contract.{Inserts, Appends}
@@ -66,34 +67,33 @@ module _ (a l t : List ℕ) (behind g len : ℕ) where
     inside = λ s f. not_used 6 s f;
   }
 
-  module _ (e : (map_words + list_count ≤ length l) × (1 ≤ length t)) (r : GivePlan) (s : RegionPlanned a l t behind g len r) where
-    module _ (v : List ℕ) (k : ByteCall) (c : Regional k behind g len) where
-      asked : Asked (grains 8 a) (most_of t) k behind g len
-      asked = regional_asked (grains 8 a) (most_of t) k behind g len c
+  module _ (e : (map_words + list_count ≤ length l) × (1 ≤ length t)) (r : Result GivePlan Refusal) (s : RegionPlanned a l t behind g len r) (v : List ℕ) (k : ByteCall) (c : Regional k behind g len) where
+    asked : Asked (grains 8 a) (most_of t) k behind g len
+    asked = regional_asked (grains 8 a) (most_of t) k behind g len c
 
-      goes : Goes (lent a l v t) k asked.call
-      goes = record { long = (regional_long (lent a l v t) k behind g len c).1 e; asks = asked.asks; inside = asked.inside }
+    goes : Goes (lent a l v t) k asked.call
+    goes = record { long = (regional_long (lent a l v t) k behind g len c).1 e; asks = asked.asks; inside = asked.inside }
 
-      -- what its script answers is what was planned
-      answers : outcome (lent a l v t) asked.call ≡ shown a t r
-      answers = ap (run (memory_of 8 (lent a l v t))) asked.script ∙ sym (s.answers v)
+    -- what its script answers is what was planned
+    answers : outcome (lent a l v t) asked.call ≡ shown a t r
+    answers = ap (run (memory_of 8 (lent a l v t))) asked.script ∙ sym (s.answers v)
 
+  module _ (e : (map_words + list_count ≤ length l) × (1 ≤ length t)) where
     -- refused
-    pub lay_refused : (r.refusal ≡ 0 → ⊥) → Lays a l t behind g len (not r.refusal) a l t
-    lay_refused n = record {
-      performs = λ v k c. refused (asked v k c).call r.refusal (goes v k c) (answers v k c ∙ unless_no r.refusal (plan_of a (entry t 0) r) n);
-      inside = λ i f. not_used r.refusal i f;
+    pub lay_refused : (r : Refusal) → RegionPlanned a l t behind g len (Err r) → Lays a l t behind g len (not (number r)) a l t
+    lay_refused r s = record {
+      performs = λ v k c. refused (asked e (Err r) s v k c).call (number r) (goes e (Err r) s v k c) (answers e (Err r) s v k c);
+      inside = λ i f. not_used (number r) i f;
     }
 
     -- done
-    pub lay_done : (b m u : List ℕ) → r.refusal ≡ 0 → Given a l t (given_writes a t r) b m u → Lays a l t behind g len (yes r.used) b m u
-    lay_done b m u f w = record {
-      performs = λ v k c. subst (λ (T : Slices). Performs (lent a l v t) k (yes (bytes k r.used)) T) ((asked v k c).plain (lent a l v t) (plan_of a (entry t 0) r) ∙ sym (w.slices v))
-          (granted (asked v k c).call (plan_of a (entry t 0) r) (goes v k c) (answers v k c ∙ unless_ok r.refusal (plan_of a (entry t 0) r) f));
+    pub lay_done : (r : GivePlan) → RegionPlanned a l t behind g len (Ok r) → (b m u : List ℕ) → Given a l t (given_writes a t r) b m u → Lays a l t behind g len (yes r.used) b m u
+    lay_done r s b m u w = record {
+      performs = λ v k c. subst (λ (T : Slices). Performs (lent a l v t) k (yes (bytes k r.used)) T) ((asked e (Ok r) s v k c).plain (lent a l v t) (plan_of a (entry t 0) r) ∙ sym (w.slices v))
+          (granted (asked e (Ok r) s v k c).call (plan_of a (entry t 0) r) (goes e (Ok r) s v k c) (answers e (Ok r) s v k c));
       inside = λ i q.
           let z : r.used ≡ i = cc in
-          let c = region_checked (most_of t) behind (grains 8 a) 12 g len (memory_of 8 (lent a l [] t)) (plan_of a (entry t 0) r)
-          (sym (s.answers []) ∙ unless_ok r.refusal (plan_of a (entry t 0) r) f) in
+          let c = region_checked (most_of t) behind (grains 8 a) 12 g len (memory_of 8 (lent a l [] t)) (plan_of a (entry t 0) r) (sym (s.answers [])) in
           omega (arith, z, c.inside, ap (λ (p : Plan). p.answer) c.plan);
     }
 

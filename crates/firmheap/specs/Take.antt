@@ -1,19 +1,19 @@
 -- A take: refused early, or as its plan is, or what was planned is stored.
-use Rattle.std.specs.Prelude.{ℕ, ◌+◌, ◌*◌, ◌<◌, ◌^◌, ◌≡◌, true, false, List, length}
-use Rattle.std.proofs.Common.{arith, sym, ◌∙◌, subst}
+use Rattle.std.specs.Prelude.{ℕ, ◌+◌, ◌*◌, ◌<◌, ◌^◌, List, length, Ok, Err}
+use Rattle.std.proofs.Common.{arith, sym, subst}
 use Rattle.sound.specs.Calls.{Take}
 use Rattle.sound.specs.Runs.{yes, not}
 use Rattle.slices.specs.Decode.{grains}
 use Rattle.slices.specs.Slices.{Slices}
 use Rattle.free_list.specs.Lent.{lent}
-use Rattle.free_list.specs.Answers.{unless_no, unless_ok}
+use Rattle.refusal.specs.Number.{number}
+use Rattle.refusal.specs.declared.Refusal.{Refusal}
 use Rattle.free_list.specs.Written.{WrittenLive}
 use Rattle.tables.specs.Length.{LongEnough}
 use Rattle.allocate.specs.declared.Plan.{Plan}
-use Rattle.allocate.specs.Demand.{Demand, asked_demand}
 use Rattle.allocate.specs.Plan.{Plans, Bounded, made_by}
 use Rattle.request.specs.declared.Request.{Request}
-use Rattle.request.specs.Asked.{AskedIf, Asked}
+use Rattle.request.specs.Asked.{Numbers, Asked}
 use Rattle.calls.specs.Bytes.{allocate, range, take}
 use Rattle.calls.specs.Performs.{short, wrong, Goes, Performs, early, refused, granted}
 use Rattle.calls.proofs.Promised.{allocated}
@@ -34,31 +34,26 @@ module _ (a l v : List ℕ) (n al : ℕ) (z : length a < 2 ^ 64) where
   pub allocate_short : (LongEnough (length a) (length l) (length v) → ⊥) → Allocates a l v n al (not 6) a l v
   allocate_short e t = allocated (lent a l v t) n al (not 6) (lent a l v t) z (early 6 (short e))
 
-  module _ (e : LongEnough (length a) (length l) (length v)) (q : Request) (s : Asked n al q) where
+  module _ (e : LongEnough (length a) (length l) (length v)) where
     -- the request is out of range
-    pub allocate_wrong : q.ok ≡ false → Allocates a l v n al (not 2) a l v
-    allocate_wrong f t = allocated (lent a l v t) n al (not 2) (lent a l v t) z (early 2 (wrong 2 e (range (subst (AskedIf n al q) f s))))
+    pub allocate_wrong : (r : Refusal) → Asked n al (Err r) → Allocates a l v n al (not (number r)) a l v
+    allocate_wrong r s t = rw s.0 (allocated (lent a l v t) n al (not 2) (lent a l v t) z (early 2 (wrong 2 e (range s.1))))
 
-    module _ (f : q.ok ≡ true) where
-      -- the numbers are those of a demand
-      pub allocate_demand : Demand q.length q.multiple
-      allocate_demand = asked_demand n al q (subst (AskedIf n al q) f s)
-
+    module _ (q : Request) (s : Numbers n al q) where
       -- what is looked for in half grains
       goes : (t : List ℕ) → Goes (lent a l v t) (allocate n al) (Take q.length q.multiple)
-      goes t = let i = subst (AskedIf n al q) f s in record { long = e; asks = rw (i.length, i.multiple) (take i.range); inside = tt }
+      goes t = record { long = e; asks = rw (s.length, s.multiple) (take s.range); inside = tt }
 
-      module _ (r : Plan) (k : Plans a l q.length q.multiple r) where
-        -- refused
-        pub allocate_refused : (r.refusal ≡ 0 → ⊥) → Allocates a l v n al (not r.refusal) a l v
-        allocate_refused h t = allocated (lent a l v t) n al (not r.refusal) (lent a l v t) z
-            (refused (Take q.length q.multiple) r.refusal (goes t) (sym (k.answers v t) ∙ unless_no r.refusal (made_by a r) h))
+      -- refused
+      pub allocate_refused : (r : Refusal) → Plans a l q.length q.multiple (Err r) → Allocates a l v n al (not (number r)) a l v
+      allocate_refused r k t = allocated (lent a l v t) n al (not (number r)) (lent a l v t) z
+          (refused (Take q.length q.multiple) (number r) (goes t) (sym (k.answers v t)))
 
-        -- done
-        pub allocate_done : (b m o : List ℕ) → r.refusal ≡ 0 → WrittenLive a l v (made_by a r).writes b m o
-            → Allocates a l v n al (yes (16 * (2 * r.at + r.place))) b m o
-        allocate_done b m o h w t =
-            let x = yes (16 * (2 * r.at + r.place)) in
-            allocated (lent a l v t) n al x (lent b m o t) z
-            (subst (λ (T : Slices). Performs (lent a l v t) (allocate n al) x T) (sym (w.slices t))
-            (granted (Take q.length q.multiple) (made_by a r) (goes t) (sym (k.answers v t) ∙ unless_ok r.refusal (made_by a r) h)))
+      -- done
+      pub allocate_done : (r : Plan) → Plans a l q.length q.multiple (Ok r) → (b m o : List ℕ) → WrittenLive a l v (made_by a r).writes b m o
+          → Allocates a l v n al (yes (16 * (2 * r.at + r.place))) b m o
+      allocate_done r k b m o w t =
+          let x = yes (16 * (2 * r.at + r.place)) in
+          allocated (lent a l v t) n al x (lent b m o t) z
+          (subst (λ (T : Slices). Performs (lent a l v t) (allocate n al) x T) (sym (w.slices t))
+          (granted (Take q.length q.multiple) (made_by a r) (goes t) (sym (k.answers v t))))

@@ -1,5 +1,5 @@
 // The heap's calls. The caller lends the arena and its tables; whatever is in them and whatever the numbers are, each call
-// returns, stays inside the slices, and does its work or refuses with a number; a refusal changes nothing. What is promised
+// returns, stays inside the slices, and does its work or refuses; a refusal changes nothing. What is promised
 // of each is one record, in crates/calls/specs/Promises.antt.
 
 #![tactic(auto)]
@@ -7,55 +7,19 @@
 ghost use Rattle.std.specs.Prelude.{◌≡◌, ◌+◌};
 ghost use Rattle.bits.specs.Map.{map_words, lists as list_count};
 ghost use Rattle.tables.specs.Length.{live_length};
-ghost use Rattle.firmheap.specs.Replies.{taken, done, given, laid};
+ghost use Rattle.firmheap.specs.Replies.{taken, done};
 ghost use Rattle.firmheap.specs.Contract.{Allocates, Deallocates, Reallocates, Initialises, Inserts, Appends};
 ghost use Rattle.calls.specs.Bytes.{following};
+ghost use Rattle.region.specs.Admit.{asked};
 ghost use Rattle.firmheap.specs.Give.{Lays};
+
+use refusal::Refusal;
+use region::Place;
 
 // The bytes of half a grain, in which payloads are counted, and of a grain.
 const HALF: usize = 16;
 
 const GRAIN: usize = 32;
-
-// Whether a region must begin where another ended.
-const ANYWHERE: usize = 0;
-
-const BEHIND: usize = 1;
-
-// Refusals that are decided here: an alignment or a size is out of range; no live payload is there; a table is too short.
-const OUT_OF_RANGE: u64 = 2;
-
-const NOT_LIVE: u64 = 3;
-
-const TOO_SHORT: u64 = 6;
-
-// A payload's offset, or why there is none.
-#[derive(Clone, Copy)]
-pub enum Taken {
-    At(usize),
-    Refused(u64),
-}
-
-// Done, or why not.
-#[derive(Clone, Copy)]
-pub enum Done {
-    Yes,
-    Refused(u64),
-}
-
-// The bytes used of a region, counted from its given start, or why there are none.
-#[derive(Clone, Copy)]
-pub enum Given {
-    Bytes(usize),
-    Refused(u64),
-}
-
-// The same in grains, from its first grain on.
-#[derive(Clone, Copy)]
-enum Laid {
-    Grains(usize),
-    Refused(u64),
-}
 
 // ---- how long the tables must be
 
@@ -75,15 +39,15 @@ pub fn live_length(arena: usize) -> usize
 
 // ---- take
 
-// A payload of `size` bytes at a multiple of `align`. Small alignments have a copy of the take to themselves, in which the
-// compiler knows the payload's place in its block.
+// A payload of `size` bytes at a multiple of `align`: its offset. Small alignments have a copy of the take to themselves, in
+// which the compiler knows the payload's place in its block.
 pub fn allocate(
     arena: &mut [u8],
     lists: &mut [u64],
     live: &mut [u64],
     size: usize,
     align: usize,
-) -> Taken
+) -> Result<usize, Refusal>
     ensures { Allocates arena.old lists.old live.old size align (taken result)
         arena.new lists.new live.new }
 {
@@ -94,35 +58,23 @@ pub fn allocate(
 }
 
 // The same, for any alignment.
-fn take(arena: &mut [u8], lists: &mut [u64], live: &mut [u64], size: usize, align: usize) -> Taken
+fn take(
+    arena: &mut [u8],
+    lists: &mut [u64],
+    live: &mut [u64],
+    size: usize,
+    align: usize,
+) -> Result<usize, Refusal>
     ensures { Allocates arena.old lists.old live.old size align (taken result)
         arena.new lists.new live.new }
 {
     if !tables::long_enough(arena.len(), lists.len(), live.len()) {
-        return Taken::Refused(TOO_SHORT);
+        return Err(Refusal::TooShort);
     }
-    let asked = request::request_of(size, align);
-    if !asked.ok {
-        return Taken::Refused(OUT_OF_RANGE);
-    }
-    let p = allocate::plan_take(arena, lists, asked.length, asked.multiple);
-    if p.refusal != 0 {
-        return Taken::Refused(p.refusal);
-    }
-    occupy::apply_take(
-        arena,
-        lists,
-        live,
-        p.list,
-        p.next,
-        p.at,
-        p.grains,
-        p.keep,
-        p.rest_list,
-        p.head,
-        p.place,
-    );
-    Taken::At(HALF * (2 * p.at + p.place))
+    let asked = request::request_of(size, align)?;
+    let p = allocate::plan_take(arena, lists, asked.length, asked.multiple)?;
+    occupy::apply_take(arena, lists, live, p);
+    Ok(HALF * (2 * p.at + p.place))
 }
 
 // ---- return
@@ -134,28 +86,20 @@ pub fn deallocate(
     live: &mut [u64],
     payload: usize,
     align: usize,
-) -> Done
+) -> Result<(), Refusal>
     ensures { Deallocates arena.old lists.old live.old payload align (done result)
         arena.new lists.new live.new }
 {
     if !tables::long_enough(arena.len(), lists.len(), live.len()) {
-        return Done::Refused(TOO_SHORT);
+        return Err(Refusal::TooShort);
     }
-    match request::payload_of(payload, align) {
-        request::Payload::At(q) => {
-            if header::count(arena) <= q / 2 {
-                return Done::Refused(NOT_LIVE);
-            }
-            let p = deallocate::plan_back(arena, lists, live, q);
-            if p.refusal != 0 {
-                return Done::Refused(p.refusal);
-            }
-            deallocate::apply_now(arena, lists, live, q, p);
-            Done::Yes
-        }
-        request::Payload::Unsuited => Done::Refused(OUT_OF_RANGE),
-        request::Payload::NoKind => Done::Refused(NOT_LIVE),
+    let q = request::payload_of(payload, align)?;
+    if header::count(arena) <= q / 2 {
+        return Err(Refusal::NotLive);
     }
+    let p = deallocate::plan_back(arena, lists, live, q)?;
+    deallocate::apply_now(arena, lists, live, q, p);
+    Ok(())
 }
 
 // ---- resize
@@ -169,52 +113,39 @@ pub fn reallocate(
     payload: usize,
     size: usize,
     align: usize,
-) -> Taken
+) -> Result<usize, Refusal>
     ensures { Reallocates arena.old lists.old live.old payload size align (taken result)
         arena.new lists.new live.new }
 {
     if !tables::long_enough(arena.len(), lists.len(), live.len()) {
-        return Taken::Refused(TOO_SHORT);
+        return Err(Refusal::TooShort);
     }
-    let asked = request::request_of(size, align);
-    if !asked.ok {
-        return Taken::Refused(OUT_OF_RANGE);
+    let asked = request::request_of(size, align)?;
+    let q = request::payload_of(payload, align)?;
+    if header::count(arena) <= q / 2 {
+        return Err(Refusal::NotLive);
     }
-    match request::payload_of(payload, align) {
-        request::Payload::At(q) => {
-            if header::count(arena) <= q / 2 {
-                return Taken::Refused(NOT_LIVE);
-            }
-            let r = reallocate::resize(arena, lists, live, q, asked.length, asked.multiple);
-            if r.refusal != 0 {
-                return Taken::Refused(r.refusal);
-            }
-            Taken::At(HALF * r.at)
-        }
-        request::Payload::Unsuited => Taken::Refused(OUT_OF_RANGE),
-        request::Payload::NoKind => Taken::Refused(NOT_LIVE),
-    }
+    let at = reallocate::resize(arena, lists, live, q, asked.length, asked.multiple)?;
+    Ok(HALF * at)
 }
 
 // ---- giving a region
 
-// `len` bytes from the offset `start` on: the whole grains among them.
+// `len` bytes from the offset `start` on: the whole grains among them. The bytes used of them are counted from `start`.
 pub fn insert_free_block(
     arena: &mut [u8],
     lists: &mut [u64],
     regions: &mut [u64],
     start: usize,
     len: usize,
-) -> Given
-    ensures { Inserts arena.old lists.old regions.old start len (given result)
+) -> Result<usize, Refusal>
+    ensures { Inserts arena.old lists.old regions.old start len (taken result)
         arena.new lists.new regions.new }
 {
     let g = request::first_grain(start);
     let n = request::whole_grains(start, len);
-    match lay(arena, lists, regions, ANYWHERE, g, n) {
-        Laid::Grains(s) => Given::Bytes(request::bytes_before(start) + GRAIN * s),
-        Laid::Refused(i) => Given::Refused(i),
-    }
+    let s = lay(arena, lists, regions, Place::Anywhere, g, n)?;
+    Ok(request::bytes_before(start) + GRAIN * s)
 }
 
 // `len` bytes from the offset `start` on, where another region ended.
@@ -224,15 +155,13 @@ pub fn append_free_block(
     regions: &mut [u64],
     start: usize,
     len: usize,
-) -> Given
-    ensures { Appends arena.old lists.old regions.old start len (given result)
+) -> Result<usize, Refusal>
+    ensures { Appends arena.old lists.old regions.old start len (taken result)
         arena.new lists.new regions.new }
 {
     let n = following_grains(start, len);
-    match lay(arena, lists, regions, BEHIND, start / GRAIN, n) {
-        Laid::Grains(s) => Given::Bytes(GRAIN * s),
-        Laid::Refused(i) => Given::Refused(i),
-    }
+    let s = lay(arena, lists, regions, Place::Behind, start / GRAIN, n)?;
+    Ok(GRAIN * s)
 }
 
 // The grains of `len` bytes that follow a region which ended at `start`: inside a grain none ends, and none follows.
@@ -245,45 +174,47 @@ fn following_grains(start: usize, len: usize) -> usize
     0
 }
 
-// `len` grains from grain g on.
+// `len` grains from grain g on: how many of them are used.
 fn lay(
     arena: &mut [u8],
     lists: &mut [u64],
     regions: &mut [u64],
-    behind: usize,
+    place: Place,
     g: usize,
     len: usize,
-) -> Laid
-    ensures { Lays arena.old lists.old regions.old behind g len (laid result)
+) -> Result<usize, Refusal>
+    ensures { Lays arena.old lists.old regions.old (asked place) g len (taken result)
         arena.new lists.new regions.new }
 {
     if lists.len() < tables::lists_length() {
-        return Laid::Refused(TOO_SHORT);
+        return Err(Refusal::TooShort);
     }
     if regions.len() == 0 {
-        return Laid::Refused(TOO_SHORT);
+        return Err(Refusal::TooShort);
     }
-    let p = give::plan_region(arena, lists, regions, behind, g, len);
-    if p.refusal != 0 {
-        return Laid::Refused(p.refusal as u64);
-    }
+    let p = give::plan_region(arena, lists, regions, place, g, len)?;
     give::apply_region(arena, lists, regions, p);
-    Laid::Grains(p.used)
+    Ok(p.used)
 }
 
 // ---- an empty heap
 
 // Makes the lent tables those of a heap to which nothing was given.
-pub fn init(arena: &[u8], lists: &mut [u64], live: &mut [u64], regions: &mut [u64]) -> Done
+pub fn init(
+    arena: &[u8],
+    lists: &mut [u64],
+    live: &mut [u64],
+    regions: &mut [u64],
+) -> Result<(), Refusal>
     ensures { Initialises arena.now lists.old live.old regions.old (done result)
         lists.new live.new regions.new }
 {
     if !tables::long_enough(arena.len(), lists.len(), live.len()) {
-        return Done::Refused(TOO_SHORT);
+        return Err(Refusal::TooShort);
     }
     if regions.len() < 1 {
-        return Done::Refused(TOO_SHORT);
+        return Err(Refusal::TooShort);
     }
     tables::init(lists, live, regions);
-    Done::Yes
+    Ok(())
 }

@@ -1,6 +1,6 @@
 -- A link leads back: it is none, or leads to a grain whose field f leads to y. The check `must_back` of any memory that
 -- stands in the arena says the same.
-use Rattle.std.specs.Prelude.{ℕ, suc, ◌+◌, ◌*◌, ◌≤◌, ◌<◌, ◌≡◌, refl, Bool, true, false, List, ◌⊎◌, length}
+use Rattle.std.specs.Prelude.{ℕ, suc, ◌+◌, ◌*◌, ◌≤◌, ◌<◌, ◌≡◌, refl, Bool, true, false, List, ◌⊎◌, length, eqb}
 use Rattle.std.proofs.Common.{arith, ap, sym, ◌∙◌, inl, inr, ⊎_elim}
 use Rattle.choice.specs.Choice.{if_eq, eq_yes, eq_no, le?, same?}
 use Rattle.choice.specs.Says.{Says}
@@ -15,7 +15,7 @@ use Rattle.slices.proofs.Arena.{link_in}
 use Rattle.slices.proofs.Heads.{next_grain}
 use Rattle.slices.proofs.Slices.{memory_next, memory_prev}
 use Rattle.header.specs.Turned.{turned}
-use Rattle.header.specs.Told.{leads_yes, leads_no}
+use Rattle.header.specs.Told.{says_eqb, leads_yes, leads_no}
 use Rattle.free_list.specs.Lent.{lent, held, no_link, link, below_none, link_none, link_some, link_grain, link_past}
 use Rattle.free_list.specs.Answers.{told}
 
@@ -43,18 +43,18 @@ module _ (a : List ℕ) (f x y g : ℕ) (i : y < grains 8 a) (e : g ≡ if_eq x 
 
   -- the word v of g is the one that is due, d: the word o of y itself where x is none, and else the one that leads to y
   module _ (s : length a < 18446744073709551616) (h : g < grains 8 a) (o v d : ℕ) (own : o ≡ word_at 8 a (4 * y + f)) (there : v ≡ word_at 8 a (4 * g + f)) (due : d ≡ if_eq x no_link o (32 * y)) where
-    pub back_due : (v ≡ d → Back a f x y) × ((v ≡ d → ⊥) → Back a f x y → ⊥)
+    pub back_due : Says (Back a f x y) (eqb v d)
     back_due = ⊎_elim
-        (λ (z : x ≡ no_link). (
-          λ q. inl z,
-          λ q. absurd (q (there ∙ ap (λ (j : ℕ). word_at 8 a (4 * j + f)) (e ∙ eq_yes x no_link y (turned x) z) ∙ sym own ∙ sym (due ∙ eq_yes x no_link o (32 * y) z))),
-        ))
+        (λ (z : x ≡ no_link).
+        says_eqb (Back a f x y) v d
+        (λ _. inl z)
+        (λ q. absurd (q (there ∙ ap (λ (j : ℕ). word_at 8 a (4 * j + f)) (e ∙ eq_yes x no_link y (turned x) z) ∙ sym own ∙ sym (due ∙ eq_yes x no_link o (32 * y) z)))))
         (λ (n : x ≡ no_link → ⊥).
         let k = e ∙ eq_no x no_link y (turned x) n in
-        let c = due ∙ eq_no x no_link o (32 * y) n in (
-          λ q. back_says a f x y g n k true h (leads_yes a g f v y 0 h i s there (q ∙ c)),
-          λ q. back_says a f x y g n k false h (leads_no a g f v y 0 h i s there (λ w. q (w ∙ sym c))),
-        ))
+        let c = due ∙ eq_no x no_link o (32 * y) n in
+        says_eqb (Back a f x y) v d
+        (λ q. back_says a f x y g n k true h (leads_yes a g f v y 0 h i s there (q ∙ c)))
+        (λ q. back_says a f x y g n k false h (leads_no a g f v y 0 h i s there (λ w. q (w ∙ sym c)))))
         (same? x no_link)
 
 -- ---- the memory of the slices

@@ -1,7 +1,7 @@
 -- What was seen can be written: the links of an entry that agrees, and the head of a list that does, are none or lead to a
 -- grain. So they are what unlinking and pushing ask for; where the block is named, its words must be these links, too.
-use Rattle.std.specs.Prelude.{ℕ, ◌<◌, ◌≡◌, Bool, true, List, [], length}
-use Rattle.std.proofs.Common.{arith, ap, sym, ◌∙◌, inl, inr, ⊎_elim}
+use Rattle.std.specs.Prelude.{ℕ, ◌<◌, ◌≡◌, List, [], length, Ok}
+use Rattle.std.proofs.Common.{arith, sym, inl, inr, ⊎_elim}
 use Rattle.choice.specs.Choice.{same?, le?}
 use Rattle.script.specs.Memory.{Memory}
 use Rattle.script.specs.Script.{Gives}
@@ -11,9 +11,7 @@ use Rattle.sound.proofs.Checked.{entry_checked, head_checked}
 use Rattle.slices.specs.Decode.{ValidLink, grains}
 use Rattle.header.specs.Turned.{turned}
 use Rattle.free_list.specs.declared.Entry.{Entry}
-use Rattle.free_list.specs.declared.Head.{Head}
 use Rattle.free_list.specs.Lent.{held, no_link, link, Leads, link_some, link_past}
-use Rattle.free_list.specs.Answers.{answer}
 use Rattle.free_list.specs.Seen.{SeenEntry, SeenHead}
 
 -- a word that says none or a grain
@@ -22,26 +20,26 @@ leads_valid a x s (inl e) = ⊎_elim (λ (h : x ≡ no_link). inl h) (λ (h : x 
 leads_valid a x s (inr h) = ⊎_elim (λ q. absurd (omega (arith, link_past a x s q))) (λ (q : turned x < grains 8 a). inr q) (le? (grains 8 a) (turned x))
 
 -- both links of an entry
-pub entry_leads : (a l : List ℕ) (k y : ℕ) (r : Entry) → length a < 18446744073709551616 → SeenEntry a l k y r → r.ok ≡ true → Leads a r.next × Leads a r.prev
-entry_leads a l k y r s h o =
-    let g : Gives m (see_entry (grains 8 a) k y) e = sym (h [] []) ∙ ap (λ (b : Bool). answer b e) o in
-    let c = entry_checked (grains 8 a) m k y e g in (
-      leads_valid a r.next s (⊎_elim (λ q. inl q) (λ q. inr q.0) c.back),
-      leads_valid a r.prev s (⊎_elim (λ q. inl q.0) (λ q. inr q.2) c.head),
+pub entry_leads : (a l : List ℕ) (k y : ℕ) (e : Entry) → length a < 18446744073709551616 → SeenEntry a l k y (Ok e) → Leads a e.next × Leads a e.prev
+entry_leads a l k y e s h =
+    let g : Gives m (see_entry (grains 8 a) k y) n = sym (h [] []) in
+    let c = entry_checked (grains 8 a) m k y n g in (
+      leads_valid a e.next s (⊎_elim (λ q. inl q) (λ q. inr q.0) c.back),
+      leads_valid a e.prev s (⊎_elim (λ q. inl q.0) (λ q. inr q.2) c.head),
     )
   where
     m : Memory
     m = held a l [] []
 
-    e : Neighbours
-    e = record { next = link a r.next; prev = link a r.prev }
+    n : Neighbours
+    n = record { next = link a e.next; prev = link a e.prev }
 
 -- a head
-pub head_leads : (a l : List ℕ) (k : ℕ) (r : Head) → length a < 18446744073709551616 → SeenHead a l k r → r.ok ≡ true → Leads a r.word
-head_leads a l k r s h o =
-    let g : Gives m (see_head (grains 8 a) k) (link a r.word) = sym (h [] []) ∙ ap (λ (b : Bool). answer b (link a r.word)) o in
-    let c = head_checked (grains 8 a) m k (link a r.word) g in
-    leads_valid a r.word s (⊎_elim (λ q. inl q.0) (λ q. inr q.0) c.marked)
+pub head_leads : (a l : List ℕ) (k w : ℕ) → length a < 18446744073709551616 → SeenHead a l k (Ok w) → Leads a w
+head_leads a l k w s h =
+    let g : Gives m (see_head (grains 8 a) k) (link a w) = sym (h [] []) in
+    let c = head_checked (grains 8 a) m k (link a w) g in
+    leads_valid a w s (⊎_elim (λ q. inl q.0) (λ q. inr q.0) c.marked)
   where
     m : Memory
     m = held a l [] []

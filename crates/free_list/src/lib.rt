@@ -3,7 +3,7 @@
 
 #![tactic(auto)]
 
-ghost use Rattle.std.specs.Prelude.{◌≡◌, ◌+◌, ◌*◌, ◌<◌};
+ghost use Rattle.std.specs.Prelude.{◌≡◌, ◌+◌, ◌*◌, ◌<◌, IfOk};
 ghost use Rattle.choice.specs.Choice.{if_eq};
 ghost use Rattle.choice.specs.Says.{Says};
 ghost use Rattle.table.specs.Table.{entry};
@@ -21,68 +21,60 @@ ghost use Rattle.free_list.specs.Moves.{join_next, join_prev, join_head};
 
 use bits::MAP_WORDS;
 use header::{NEXT, NONE, PREV};
+use refusal::Refusal;
 
-// The links of a block in its list, where all that is beside it agrees.
+// The links of a block in its list.
 #[derive(Clone, Copy)]
 pub struct Entry {
-    pub ok: bool,
     pub next: u64,
     pub prev: u64,
 }
 
-// The head of a list, where all that is beside it agrees.
-#[derive(Clone, Copy)]
-pub struct Head {
-    pub ok: bool,
-    pub word: u64,
-}
-
 // ---- checks
 
-// Block y of list k, with what is behind it and before it.
-pub fn see_entry(a: &[u8], lists: &[u64], k: usize, y: usize) -> Entry
+// Block y of list k, where what is behind it and before it agrees.
+pub fn see_entry(a: &[u8], lists: &[u64], k: usize, y: usize) -> Result<Entry, Refusal>
     requires { (y < grains 8 a.now) × Room k lists.now }
-    ensures { SeenEntry a.now lists.now k y result × Holds a.now y result.next result.prev }
+    ensures { SeenEntry a.now lists.now k y result × IfOk result (λ e. Holds a.now y e.next e.prev) }
 {
     let next = header::field(a, y, NEXT);
     let prev = header::field(a, y, PREV);
     if !leads_back(a, PREV, next, y) {
-        return Entry {
-            ok: false,
-            next,
-            prev,
-        };
+        return Err(Refusal::Damaged);
     }
     if !bits::is_marked(lists, k) {
-        return Entry {
-            ok: false,
-            next,
-            prev,
-        };
+        return Err(Refusal::Damaged);
     }
-    let ok = stands_behind(a, head_of(lists, k), y, prev);
-    Entry { ok, next, prev }
+    if !stands_behind(a, head_of(lists, k), y, prev) {
+        return Err(Refusal::Damaged);
+    }
+    Ok(Entry { next, prev })
 }
 
-// The head of list k, before which another is to be put.
-pub fn see_head(a: &[u8], lists: &[u64], k: usize) -> Head
+// The word of the head of list k, before which another block is to be put, where all that is beside it agrees.
+pub fn see_head(a: &[u8], lists: &[u64], k: usize) -> Result<u64, Refusal>
     requires { Room k lists.now }
     ensures { SeenHead a.now lists.now k result }
 {
     let word = head_of(lists, k);
     let marked = bits::is_marked(lists, k);
     if word == NONE {
-        return Head { ok: !marked, word };
+        if marked {
+            return Err(Refusal::Damaged);
+        }
+        return Ok(word);
     }
     if !marked {
-        return Head { ok: false, word };
+        return Err(Refusal::Damaged);
     }
     let g = header::grain_of(word);
     if header::count(a) <= g {
-        return Head { ok: false, word };
+        return Err(Refusal::Damaged);
     }
-    let ok = header::field(a, g, PREV) == NONE;
-    Head { ok, word }
+    if header::field(a, g, PREV) != NONE {
+        return Err(Refusal::Damaged);
+    }
+    Ok(word)
 }
 
 // The word of the head of list k.
@@ -94,6 +86,7 @@ fn head_of(lists: &[u64], k: usize) -> u64
 }
 
 // Whether y stands behind p in a list whose head is h: behind nothing exactly where it is the head.
+#[tactic(auto, using(header::specs::Turned::grains_few))]
 fn stands_behind(a: &[u8], h: u64, y: usize, p: u64) -> bool
     requires { y < grains 8 a.now }
     ensures { Placed a.now h y p result }
@@ -109,6 +102,7 @@ fn stands_behind(a: &[u8], h: u64, y: usize, p: u64) -> bool
 }
 
 // Whether x is none, or leads to a grain whose link f leads to y.
+#[tactic(auto, using(header::specs::Turned::grains_few))]
 pub fn leads_back(a: &[u8], f: usize, x: u64, y: usize) -> bool
     requires { (f < 4) × (y < grains 8 a.now) }
     ensures { Says (Back a.now f x y) result }
@@ -118,11 +112,7 @@ pub fn leads_back(a: &[u8], f: usize, x: u64, y: usize) -> bool
     if header::count(a) <= g {
         return false;
     }
-    let due = if_none(x, own, header::bytes_of(y));
-    if header::field(a, g, f) == due {
-        return true;
-    }
-    false
+    header::field(a, g, f) == if_none(x, own, header::bytes_of(y))
 }
 
 // ---- a link that may be none
@@ -131,7 +121,7 @@ pub fn leads_back(a: &[u8], f: usize, x: u64, y: usize) -> bool
 // for what a link that is none would lead to: it is read and compared, or written as it is.
 
 // The grain that x leads to; y where it is none.
-fn grain_or(x: u64, y: usize) -> usize
+pub fn grain_or(x: u64, y: usize) -> usize
     ensures { result ≡ if_eq x no_link y (turned x) }
 {
     if x == NONE {
@@ -218,6 +208,7 @@ fn join_prev(a: &mut [u8], lists: &mut [u64], k: usize, x: u64, p: u64)
 }
 
 // Block y is put at the head of list k, before h.
+#[tactic(auto, using(header::specs::Turned::grains_few))]
 pub fn push(a: &mut [u8], lists: &mut [u64], k: usize, y: usize, h: u64)
     requires { (y < grains 8 a.old) × Room k lists.old × Leads a.old h }
     ensures { Written a.old lists.old
@@ -230,6 +221,7 @@ pub fn push(a: &mut [u8], lists: &mut [u64], k: usize, y: usize, h: u64)
 }
 
 // The old head h leads back to y; where there is none, the list is marked.
+#[tactic(auto, using(header::specs::Turned::grains_few))]
 fn join_head(a: &mut [u8], lists: &mut [u64], k: usize, y: usize, h: u64)
     requires { (y < grains 8 a.old) × Room k lists.old × Leads a.old h }
     ensures { Written a.old lists.old

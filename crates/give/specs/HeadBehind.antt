@@ -1,6 +1,6 @@
 -- The check of a list's head, on the memory that the pieces of full length leave: the list is another than theirs. Where the
 -- head is a piece or the old head of theirs, its previous link decides; any other head is seen as before.
-use Rattle.std.specs.Prelude.{ℕ, suc, ◌+◌, ◌*◌, ◌≤◌, ◌<◌, ◌≡◌, refl, ◌⊎◌}
+use Rattle.std.specs.Prelude.{ℕ, suc, ◌+◌, ◌*◌, ◌≤◌, ◌<◌, ◌≡◌, refl}
 use Rattle.std.proofs.Common.{arith, ap, sym, ◌∙◌, inl, inr, ⊎_elim}
 use Rattle.choice.specs.Choice.{if_eq, eq_no, eq_case, le_case, same?}
 use Rattle.class.specs.Class.{list_of}

@@ -28,9 +28,9 @@ module _ (m : Memory) (n g len c : ℕ) where
 
 -- a piece of p of q grains at x, behind the writes w: its list is not as it should be
 pub piece_refused : (m : Memory) (n : ℕ) (w : List Write) (x q p : ℕ) → 2 ≤ q → min q (2 ^ 12) ≡ p → (f : ℕ) → 1 ≤ f
-    → run (apply m w) (see_head n (list_of (p - 1))) ≡ no 5 → run m (lay_script n 12 f w x q) ≡ no 5
-piece_refused m n w x q p long e zero b s = absurd (omega arith)
-piece_refused m n w x q p long e (suc f) b s = lay_stop m n 12 f w x q long 5 (rw e s)
+    → (r : ℕ) → run (apply m w) (see_head n (list_of (p - 1))) ≡ no r → run m (lay_script n 12 f w x q) ≡ no r
+piece_refused m n w x q p long e zero b r s = absurd (omega arith)
+piece_refused m n w x q p long e (suc f) b r s = lay_stop m n 12 f w x q long r (rw e s)
 
 -- a last piece of q grains at x, behind the writes w
 module _ (m : Memory) (n : ℕ) (w : List Write) (x q : ℕ) (long : 2 ≤ q) (short : q ≤ 4096) where
@@ -44,8 +44,8 @@ module _ (m : Memory) (n : ℕ) (w : List Write) (x q : ℕ) (long : 2 ≤ q) (s
       let z : q - q ≡ 0 = omega arith in
       rw (whole, z) at (lay_more m n 12 f w x q long h (rw whole e)) ∙ lay_end m n 12 f (w ++ piece_writes x q h) (x + q) 0 (omega arith)
 
-  pub last_refused : (f : ℕ) → 1 ≤ f → run (apply m w) (see_head n (list_of (q - 1))) ≡ no 5 → run m (lay_script n 12 f w x q) ≡ no 5
-  last_refused f p e = piece_refused m n w x q q long whole f p e
+  pub last_refused : (f : ℕ) → 1 ≤ f → (r : ℕ) → run (apply m w) (see_head n (list_of (q - 1))) ≡ no r → run m (lay_script n 12 f w x q) ≡ no r
+  last_refused f p r e = piece_refused m n w x q q long whole f p r e
 
 -- i pieces of full length, and a rest of q grains
 pub row_behind : (m : Memory) (n g h len : ℕ) → n ≤ none → Gives m (see_head n (list_of 4095)) h → g + len ≤ n → (i q : ℕ) → 4096 * i + q ≡ len

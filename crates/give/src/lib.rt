@@ -8,8 +8,9 @@ ghost use Rattle.choice.specs.Says.{Says};
 ghost use Rattle.class.specs.Class.{list_of};
 ghost use Rattle.bits.specs.Map.{lists as list_count};
 ghost use Rattle.slices.specs.Decode.{grains};
-ghost use Rattle.free_list.specs.Lent.{Long, link};
+ghost use Rattle.free_list.specs.Lent.{Long};
 ghost use Rattle.free_list.specs.Written.{Written};
+ghost use Rattle.region.specs.Admit.{asked};
 ghost use Rattle.give.specs.Shown.{last_writes, given_writes, Able, LastAble, LayoutPlanned, RegionPlanned};
 ghost use Rattle.give.specs.Joined.{Joined};
 ghost use Rattle.give.specs.Last.{Row, SeenLast};
@@ -17,43 +18,42 @@ ghost use Rattle.give.specs.Given.{Given};
 
 use bits::MAP_WORDS;
 use header::NONE;
-use region::PIECE;
+use refusal::Refusal;
+use region::{PIECE, Place};
 
-// The records contradict each other.
-const DAMAGED: usize = 5;
-
-// Why the call is refused, unless with 0; the first grain, the pieces of full length with the head that the first of them is
-// put before, the grains of the last piece with the head that it is put before, and how many grains all of them have. There
-// may be no piece of full length, and no last piece, which then has no grains.
-#[derive(Clone, Copy)]
+// The first grain; the pieces of full length with the head that the first of them is put before, of which there may be none;
+// the last piece, if there is one; and how many grains all of them have.
+#[derive(Clone, Copy, Debug, PartialEq, Eq)]
 pub struct Plan {
-    pub refusal: usize,
     pub at: usize,
     pub full: usize,
     pub head: u64,
-    pub rest: usize,
-    pub rest_head: u64,
+    pub last: Option<Last>,
     pub used: usize,
+}
+
+// The grains of a last piece, with the head that it is put before.
+#[derive(Clone, Copy, Debug, PartialEq, Eq)]
+pub struct Last {
+    pub grains: usize,
+    pub head: u64,
 }
 
 // ---- the plan
 
-// len grains from g on are given; with `behind` 1 the region must begin where another ended.
+// len grains from g on are given at this place.
 pub fn plan_region(
     a: &[u8],
     lists: &[u64],
     regions: &[u64],
-    behind: usize,
+    place: Place,
     g: usize,
     len: usize,
-) -> Plan
+) -> Result<Plan, Refusal>
     requires { Long lists.now × (1 ≤ length regions.now) }
-    ensures { RegionPlanned a.now lists.now regions.now behind g len result }
+    ensures { RegionPlanned a.now lists.now regions.now (asked place) g len result }
 {
-    let refusal = region::admit(regions, behind, header::count(a), g, len);
-    if refusal != 0 {
-        return refused(refusal);
-    }
+    region::admit(regions, place, header::count(a), g, len)?;
     if len < PIECE {
         return plan_one(a, lists, g, len);
     }
@@ -61,76 +61,45 @@ pub fn plan_region(
 }
 
 // A region that is shorter than a piece can be: it is one piece.
-fn plan_one(a: &[u8], lists: &[u64], g: usize, len: usize) -> Plan
+fn plan_one(a: &[u8], lists: &[u64], g: usize, len: usize) -> Result<Plan, Refusal>
     requires { Long lists.now × (g + len ≤ grains 8 a.now) × (2 ≤ len) × (len < 4096) }
     ensures { LayoutPlanned a.now lists.now g len result }
 {
-    let h = free_list::see_head(a, lists, list_of(len));
-    if !h.ok {
-        return refused(DAMAGED);
-    }
-    Plan {
-        refusal: 0,
+    let head = free_list::see_head(a, lists, list_of(len))?;
+    Ok(Plan {
         at: g,
         full: 0,
         head: NONE,
-        rest: len,
-        rest_head: h.word,
+        last: Some(Last { grains: len, head }),
         used: len,
-    }
+    })
 }
 
 // Any other: pieces of full length, and a last one if two grains or more are left.
-fn plan_row(a: &[u8], lists: &[u64], g: usize, len: usize) -> Plan
+fn plan_row(a: &[u8], lists: &[u64], g: usize, len: usize) -> Result<Plan, Refusal>
     requires { Long lists.now × (g + len ≤ grains 8 a.now) × (4096 ≤ len) }
     ensures { LayoutPlanned a.now lists.now g len result }
 {
-    let h = free_list::see_head(a, lists, list_of(PIECE));
-    if !h.ok {
-        return refused(DAMAGED);
-    }
+    let h = free_list::see_head(a, lists, list_of(PIECE))?;
     let full = len / PIECE;
     let rest = len % PIECE;
     if rest < 2 {
-        let used = len - rest;
-        return Plan {
-            refusal: 0,
+        return Ok(Plan {
             at: g,
             full,
-            head: h.word,
-            rest: 0,
-            rest_head: NONE,
-            used,
-        };
+            head: h,
+            last: None,
+            used: len - rest,
+        });
     }
-    let last = see_last(a, lists, g, full, h.word, rest);
-    if !last.ok {
-        return refused(DAMAGED);
-    }
-    Plan {
-        refusal: 0,
+    let head = see_last(a, lists, g, full, h, rest)?;
+    Ok(Plan {
         at: g,
         full,
-        head: h.word,
-        rest,
-        rest_head: last.word,
+        head: h,
+        last: Some(Last { grains: rest, head }),
         used: len,
-    }
-}
-
-// A refusal, with nothing planned.
-fn refused(why: usize) -> Plan
-    ensures { result.refusal ≡ why }
-{
-    Plan {
-        refusal: why,
-        at: 0,
-        full: 0,
-        head: NONE,
-        rest: 0,
-        rest_head: NONE,
-        used: 0,
-    }
+    })
 }
 
 // The list of the block of a piece of m grains, of which its sentinel has one.
@@ -144,17 +113,21 @@ fn list_of(m: usize) -> usize
 // ---- the head that the last piece is put before
 
 // The head of the list of a piece of m grains, as the pieces of full length from g on will leave it, which are put before h.
-fn see_last(a: &[u8], lists: &[u64], g: usize, full: usize, h: u64, m: usize) -> free_list::Head
+fn see_last(
+    a: &[u8],
+    lists: &[u64],
+    g: usize,
+    full: usize,
+    h: u64,
+    m: usize,
+) -> Result<u64, Refusal>
     requires { Long lists.now × Row a.now lists.now g full h × (2 ≤ m) × (m ≤ 4096) }
     ensures { SeenLast a.now lists.now g full h (list_of (m - 1)) result }
 {
     let k = list_of(m);
     let last = header::bytes_of(g + PIECE * (full - 1));
     if k == list_of(PIECE) {
-        return free_list::Head {
-            ok: true,
-            word: last,
-        };
+        return Ok(last);
     }
     see_other(a, lists, g, full, h, k, last)
 }
@@ -168,17 +141,19 @@ fn see_other(
     h: u64,
     k: usize,
     last: u64,
-) -> free_list::Head
+) -> Result<u64, Refusal>
     requires { Long lists.now × Row a.now lists.now g full h × (k < list_count) × (k ≡ list_of 4095 → ⊥) × (last ≡ 32 * (g + 4096 * (full - 1))) }
     ensures { SeenLast a.now lists.now g full h k result }
 {
     let word = table::fetch(lists, MAP_WORDS + k);
     if word == last {
-        let ok = bits::is_marked(lists, k);
-        return free_list::Head { ok, word };
+        if !bits::is_marked(lists, k) {
+            return Err(Refusal::Damaged);
+        }
+        return Ok(word);
     }
     if is_joined(word, g, full, h) {
-        return free_list::Head { ok: false, word };
+        return Err(Refusal::Damaged);
     }
     free_list::see_head(a, lists, k)
 }
@@ -211,18 +186,16 @@ pub fn apply_region(a: &mut [u8], lists: &mut [u64], regions: &mut [u64], p: Pla
         a.new lists.new regions.new }
 {
     region::lay_full(a, lists, p.at, p.full, p.head);
-    lay_last(a, lists, p.at + PIECE * p.full, p.rest, p.rest_head);
+    lay_last(a, lists, p.at + PIECE * p.full, p.last);
     region::enter_region(regions, p.at, p.at + p.used);
 }
 
-// The last piece, of m grains at x, before h in its list, if there is one.
-fn lay_last(a: &mut [u8], lists: &mut [u64], x: usize, m: usize, h: u64)
-    requires { LastAble a.old lists.old x m h }
-    ensures { Written a.old lists.old (last_writes x m (link a.old h))
-        a.new lists.new }
+// The last piece at x, if there is one.
+fn lay_last(a: &mut [u8], lists: &mut [u64], x: usize, last: Option<Last>)
+    requires { LastAble a.old lists.old x last }
+    ensures { Written a.old lists.old (last_writes a.old x last) a.new lists.new }
 {
-    if m == 0 {
-        return;
+    if let Some(piece) = last {
+        region::lay_piece(a, lists, x, piece.grains, piece.head);
     }
-    region::lay_piece(a, lists, x, m, h);
 }

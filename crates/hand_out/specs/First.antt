@@ -4,18 +4,14 @@ use Rattle.std.proofs.Common.{arith, ◌∙◌}
 use Rattle.std.proofs.Math.Path.{subst}
 use Rattle.choice.specs.Says.{Says}
 use Rattle.class.specs.Class.{list_of}
-use Rattle.table.specs.Table.{entry}
 use Rattle.script.specs.Memory.{Memory, Next, Prev}
-use Rattle.script.specs.Script.{Script, done, run, get, must_eq, ◌>>=◌, ◌>>◌}
+use Rattle.script.specs.Script.{Script, ok, no, done, run, get, must_eq, ◌>>=◌, ◌>>◌}
 use Rattle.script.proofs.Script.{goes, halts, inv_bind, inv_get, inv_done, inv_eq}
-use Rattle.machine.specs.Machine.{piece}
-use Rattle.lent.specs.Slices.{grains, memory_of, tag_words, next_at, prev_at}
-use Rattle.lent.proofs.TagWords.{count_fits}
+use Rattle.lent.specs.Slices.{grains, memory_of, next_at, prev_at}
 use Rattle.plans.specs.Checks.{must_free, must_be, see_free}
 use Rattle.plans.proofs.Checked.{whole_checked}
 use Rattle.plans.specs.Allocate.{see_first}
-use Rattle.entries.specs.Answers.{held, answer, told}
-use Rattle.entries.specs.declared.Found.TheVariants.{Grains, Bad}
+use Rattle.entries.specs.Answers.{held, answer}
 use Rattle.entries.specs.Decides.{Decides, decided, decides_eq, decides_read, decides_then, decides_last}
 use Rattle.entries.specs.Agrees.{Begins}
 use Rattle.entries.specs.Seen.{begins_decides}
@@ -48,25 +44,18 @@ module _ (a l t g : List ℕ) where
       (decides_then m (must_free (grains a) x) _ (begins_decides a l t g x)
       (decides_last m (must_be Prev x y) s (decides_read m Prev x _ (decides_eq m (prev_at a x) y))))))
 
-  pub first_bad : (k y : ℕ) → run m (see_free (grains a) y) ≡ told Bad → run m (see_first (grains a) k y) ≡ told Bad
+  pub first_bad : (k y i : ℕ) → run m (see_free (grains a) y) ≡ no i → run m (see_first (grains a) k y) ≡ no i
   unfolding see_first
-  first_bad k y h = halts m (see_free (grains a) y) _ h
+  first_bad k y i h = halts m (see_free (grains a) y) _ h
 
-  pub first_found : (k y s : ℕ) → run m (see_free (grains a) y) ≡ told (Grains s) → (x : ℕ) → x ≡ next_at a y → (r : Bool) → Says (Firstly a t k y s x) r
+  pub first_found : (k y s : ℕ) → run m (see_free (grains a) y) ≡ ok s → (x : ℕ) → x ≡ next_at a y → (r : Bool) → Says (Firstly a t k y s x) r
       → run m (see_first (grains a) k y) ≡ answer r s
   unfolding see_first
   first_found k y s h x e r w =
       goes m (see_free (grains a) y) _ h ∙ decided (first_decides k y s) r (subst (λ (z : ℕ). Says (Firstly a t k y s z) r) e w)
 
-  -- the free block is in the arena, and its count is one
-  pub found_block : (y s : ℕ) → entry t y < tag_words → run m (see_free (grains a) y) ≡ told (Grains s) → (y < grains a) × (0 < s) × (s < piece)
-  unfolding memory_of
-  found_block y s u h =
-      let w = whole_checked m (grains a) y h in
-      (w.starts.inside, omega (arith, w.starts.some), omega (arith, w.starts.tag, count_fits (entry t y) u))
-
   -- what is known of the first block of list k
-  pub first_holds : (k y s : ℕ) → run m (see_first (grains a) k y) ≡ told (Grains s) → (y < grains a) × (0 < s) × (list_of s ≡ k)
+  pub first_holds : (k y s : ℕ) → run m (see_first (grains a) k y) ≡ ok s → (y < grains a) × (0 < s) × (list_of s ≡ k)
   unfolding see_first
   first_holds k y s h =
       let i = inv_bind m (see_free (grains a) y) _ h in

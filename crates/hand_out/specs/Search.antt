@@ -1,5 +1,5 @@
 -- The search for a block, step by step: a list that is marked, its first block, and the head of the list that the rest enters.
-use Rattle.std.specs.Prelude.{ℕ, suc, ◌-◌, ◌*◌, ◌≤◌, ◌<◌, ◌≡◌, refl, true, false, List}
+use Rattle.std.specs.Prelude.{ℕ, suc, ◌-◌, ◌*◌, ◌≤◌, ◌<◌, ◌≡◌, refl, List}
 use Rattle.std.proofs.Common.{arith, ◌∙◌}
 use Rattle.std.proofs.Math.Path.{sym}
 use Rattle.bits.specs.First.{first_set}
@@ -19,8 +19,7 @@ use Rattle.lent.specs.Slices.{grains, head_at}
 use Rattle.lent.proofs.Fields.{memory_mark, memory_head}
 use Rattle.plans.specs.Checks.{see_rest}
 use Rattle.plans.specs.Allocate.{Taken, see_first, see_taken}
-use Rattle.entries.specs.Answers.{slices, held, verdict, told}
-use Rattle.entries.specs.declared.Found.TheVariants.{Grains, Bad}
+use Rattle.entries.specs.Answers.{slices, held}
 
 -- ---- the parts of the script
 
@@ -70,20 +69,20 @@ module _ (a l t g : List ℕ) (p u : ℕ) where
         ∙ reads m Head k _ (memory_head (slices a l t g) k ∙ sym f)
 
     -- its first block contradicts itself
-    pub search_bad : run m (see_first (grains a) k y) ≡ told Bad → run m (see_taken (grains a) classes p u) ≡ no 5
-    search_bad h = first_next ∙ halts m (see_first (grains a) k y) _ h
+    pub search_bad : (r : ℕ) → run m (see_first (grains a) k y) ≡ no r → run m (see_taken (grains a) classes p u) ≡ no r
+    search_bad r h = first_next ∙ halts m (see_first (grains a) k y) _ h
 
-    pub search_cut : (s : ℕ) → run m (see_first (grains a) k y) ≡ told (Grains s) → run m (see_taken (grains a) classes p u) ≡ run m (cut (grains a) p u k y s)
+    pub search_cut : (s : ℕ) → run m (see_first (grains a) k y) ≡ ok s → run m (see_taken (grains a) classes p u) ≡ run m (cut (grains a) p u k y s)
     search_cut s h = first_next ∙ goes m (see_first (grains a) k y) _ h
 
   -- ---- the rest
 
   module _ (k y s : ℕ) where
-    pub cut_bad : run m (see_rest (grains a) classes s (keeps (place u y) p)) ≡ verdict false → run m (cut (grains a) p u k y s) ≡ no 5
+    pub cut_bad : (r : ℕ) → run m (see_rest (grains a) classes s (keeps (place u y) p)) ≡ no r → run m (cut (grains a) p u k y s) ≡ no r
     unfolding cut
-    cut_bad h = halts m (see_rest (grains a) classes s (keeps (place u y) p)) _ h
+    cut_bad r h = halts m (see_rest (grains a) classes s (keeps (place u y) p)) _ h
 
-    pub cut_made : run m (see_rest (grains a) classes s (keeps (place u y) p)) ≡ verdict true → run m (cut (grains a) p u k y s) ≡ ok (record { list = k; block = y; grains = s })
+    pub cut_made : run m (see_rest (grains a) classes s (keeps (place u y) p)) ≡ ok (tt {0}) → run m (cut (grains a) p u k y s) ≡ ok (record { list = k; block = y; grains = s })
     unfolding cut
     cut_made h = goes m (see_rest (grains a) classes s (keeps (place u y) p)) _ h ∙ gives_done m _
 

@@ -2,33 +2,31 @@
 
 #![tactic(auto)]
 
-ghost use Rattle.std.specs.Prelude.{◌≡◌, List, ℕ, ◌+◌, ◌*◌, ◌≤◌, ◌<◌, length as length_of};
+ghost use Rattle.std.specs.Prelude.{◌≡◌, List, ℕ, ◌+◌, ◌*◌, ◌≤◌, ◌<◌};
 ghost use Rattle.choice.specs.Says.{Says};
-ghost use Rattle.definition.specs.Calls.{place as place_of, keeps};
+ghost use Rattle.definition.specs.Calls.{place, keeps};
 ghost use Rattle.script.specs.Script.{run};
 ghost use Rattle.machine.specs.Machine.{classes, piece};
-ghost use Rattle.plans.specs.Allocate.{Taken, taken_steps, allocate_deed, see_first, see_taken};
-ghost use Rattle.lent.specs.Slices.{grains as grains_of, next_at};
-ghost use Rattle.entries.specs.Answers.{held, told, Enough};
+ghost use Rattle.plans.specs.Allocate.{allocate_deed, see_first, see_taken};
+ghost use Rattle.lent.specs.Slices.{next_at};
+ghost use Rattle.refusal.specs.Answered.{answered};
+ghost use Rattle.entries.specs.Lent.{tagged_memory, tagged_grains, memory_in, grains_in, SameLinks};
 ghost use Rattle.deeds.specs.Does.{Does};
-ghost use Rattle.hand_out.specs.Demand.{Demand};
-ghost use Rattle.hand_out.specs.Answers.{taking};
+ghost use Rattle.hand_out.specs.Answers.{taken_of, taking};
 ghost use Rattle.hand_out.specs.First.{Firstly};
 ghost use Rattle.hand_out.specs.Search.{cut};
 ghost use Rattle.hand_out.specs.Take.{CanTake};
 
-use entries::Found;
-use machine::{LISTS, PIECE};
+mod demand;
 
-// The refusals: no list has a block; the records contradict each other.
-const NO_LIST: u64 = 1;
+pub use demand::Demand;
+use entries::{Lent, Links, Tagged};
+use machine::PIECE;
+use refusal::Refusal;
 
-const DAMAGED: u64 = 5;
-
-// What a search found, where the refusal is 0: a list, its first block, and how many grains that has.
+// What a search found: a list, its first block, and how many grains that has.
 #[derive(Clone, Copy)]
 pub struct Taking {
-    pub refusal: u64,
     pub list: usize,
     pub block: usize,
     pub grains: usize,
@@ -36,130 +34,86 @@ pub struct Taking {
 
 // ---- the search
 
-// A block for some half grains at a multiple of others. What is wanted, both together rounded up to grains, is written as a
-// number and 1, for the compiler to see that it is not 0.
-pub fn see_taken(a: &[u8], lists: &[u64], tags: &[u16], length: usize, multiple: usize) -> Taking
-    requires { Enough a.now lists.now tags.now × Demand length multiple }
-    ensures { (g : List ℕ) → run (held a.now lists.now tags.now g)
-        (see_taken (grains_of a.now) classes length multiple) ≡ taking result }
+// A block for what is asked. What is wanted, length and multiple together rounded up to grains, is written as a number and 1,
+// for the compiler to see that it is not 0.
+pub fn see_taken(heap: &Lent, asked: Demand) -> Result<Taking, Refusal>
+    ensures { (g : List ℕ) → run (memory_in heap.now g)
+        (see_taken (grains_in heap.now) classes asked.length asked.multiple) ≡ taking result }
 {
-    let wanted = (length + multiple - 1) / 2 + 1;
+    let wanted = (asked.length + asked.multiple - 1) / 2 + 1;
     if PIECE <= wanted {
-        return refuse(NO_LIST);
+        return Err(Refusal::NoList);
     }
-    let list = bits::first_marked(lists, class::map_ceil(wanted as u64) as usize);
-    if LISTS <= list {
-        return refuse(NO_LIST);
-    }
-    let block = lent::head(lists, list);
-    match see_first(a, tags, list, block) {
-        Found::Bad => refuse(DAMAGED),
-        Found::Grains(s) => see_cut(a, lists, tags, list, block as usize, s, length, multiple),
-    }
+    let Some(list) = bits::first_marked(heap.lists, class::map_ceil(wanted as u64) as usize) else {
+        return Err(Refusal::NoList);
+    };
+    let block = lent::head(heap.lists, list);
+    let grains = see_first(&heap.tagged, list, block)?;
+    see_cut(
+        heap,
+        Taking {
+            list,
+            block: block as usize,
+            grains,
+        },
+        asked,
+    )
 }
 
 // The same, once the first block of the list was seen.
-fn see_cut(
-    a: &[u8],
-    lists: &[u64],
-    tags: &[u16],
-    list: usize,
-    block: usize,
-    grains: usize,
-    length: usize,
-    multiple: usize,
-) -> Taking
-    requires { Enough a.now lists.now tags.now × Demand length multiple × (block < grains_of a.now) × (0 < grains)
-        × (keeps (place_of multiple block) length ≤ grains) }
-    ensures { (g : List ℕ) → run (held a.now lists.now tags.now g)
-        (cut (grains_of a.now) length multiple list block grains) ≡ taking result }
+fn see_cut(heap: &Lent, found: Taking, asked: Demand) -> Result<Taking, Refusal>
+    requires { (found.block < grains_in heap.now) × (0 < found.grains) × (keeps (place asked.multiple found.block) asked.length ≤ found.grains) }
+    ensures { (g : List ℕ) → run (memory_in heap.now g)
+        (cut (grains_in heap.now) asked.length asked.multiple found.list found.block found.grains) ≡ taking result }
 {
-    let keep = request::keeps_of(request::place_of(multiple, block), length);
-    if !entries::see_rest(a, lists, tags, grains, keep, block) {
-        return refuse(DAMAGED);
-    }
-    Taking {
-        refusal: 0,
-        list,
-        block,
-        grains,
-    }
+    heap.see_rest(found.grains, asked.keep(found.block), found.block)?;
+    Ok(found)
 }
 
-// Nothing is taken, and why.
-fn refuse(why: u64) -> Taking
-    ensures { result.refusal ≡ why }
+// The first block y of list k, and how many grains it has.
+fn see_first(tagged: &Tagged, k: usize, y: u64) -> Result<usize, Refusal>
+    ensures { (l g : List ℕ) → run (tagged_memory tagged.now l g) (see_first (tagged_grains tagged.now) k y) ≡ answered result }
 {
-    Taking {
-        refusal: why,
-        list: 0,
-        block: 0,
-        grains: 0,
+    let s = tagged.see_free(y)?;
+    if !stands_first(tagged, k, y as usize, s) {
+        return Err(Refusal::Damaged);
     }
-}
-
-// The first block y of list k.
-fn see_first(a: &[u8], tags: &[u16], k: usize, y: u64) -> Found
-    requires { grains_of a.now < length_of tags.now }
-    ensures { (l g : List ℕ) → run (held a.now l tags.now g) (see_first (grains_of a.now) k y) ≡ told result }
-{
-    match entries::see_free(a, tags, y) {
-        Found::Bad => Found::Bad,
-        Found::Grains(s) => {
-            if stands_first(a, tags, k, y as usize, s) {
-                return Found::Grains(s);
-            }
-            Found::Bad
-        }
-    }
+    Ok(s)
 }
 
 // Whether the free block y, of s grains, is of list k, and the first of it: it is its own previous, and that of its next.
-fn stands_first(a: &[u8], tags: &[u16], k: usize, y: usize, s: usize) -> bool
-    requires { (grains_of a.now < length_of tags.now) × (y < grains_of a.now) × (0 < s) × (s < piece) }
-    ensures { Says (Firstly a.now tags.now k y s (next_at a.now y)) result }
+fn stands_first(tagged: &Tagged, k: usize, y: usize, s: usize) -> bool
+    requires { (y < tagged_grains tagged.now) × (0 < s) × (s < piece) }
+    ensures { Says (Firstly tagged.now.arena.now tagged.now.tags.now k y s (next_at tagged.now.arena.now y)) result }
 {
     let own = y as u64;
     if entries::list_of(s) != k {
         return false;
     }
-    if lent::prev(a, y) != own {
+    if lent::prev(tagged.arena, y) != own {
         return false;
     }
-    let next = lent::next(a, y);
-    if !entries::begins_free(a, tags, next) {
-        return false;
-    }
-    if lent::prev(a, next as usize) != own {
-        return false;
-    }
-    true
+    let next = lent::next(tagged.arena, y);
+    tagged.begins_free(next) && lent::prev(tagged.arena, next as usize) == own
 }
 
 // ---- the taking
 
 // The block that was found leaves its list, its rest enters one, and it is guarded and tagged. The payload's place is
 // answered, in half grains.
-pub fn take(
-    a: &mut [u8],
-    lists: &mut [u64],
-    tags: &mut [u16],
-    list: usize,
-    block: usize,
-    grains: usize,
-    length: usize,
-    multiple: usize,
-) -> usize
-    requires { Demand length multiple × CanTake a.old lists.old tags.old length multiple (record { list = list; block = block; grains = grains }) }
-    ensures { (result ≡ 2 * block + place_of multiple block)
-        × Does (allocate_deed length multiple (record { list = list; block = block; grains = grains })) a.old lists.old tags.old
-        a.new lists.new tags.new }
+pub fn take(links: &mut Links, tags: &mut [u16], found: Taking, asked: Demand) -> usize
+    requires { CanTake links.old.arena.now links.old.lists.now tags.old asked.length asked.multiple (taken_of found) }
+    ensures placed { result ≡ 2 * found.block + place asked.multiple found.block }
+    ensures does { Does (allocate_deed asked.length asked.multiple (taken_of found))
+        links.old.arena.now links.old.lists.now tags.old
+        links.new.arena.now links.new.lists.now tags.new }
+    ensures same { SameLinks links.old links.new }
 {
-    let place = request::place_of(multiple, block);
-    let keep = request::keeps_of(place, length);
-    entries::leave(a, lists, list, block);
-    deeds::enter_rest(a, lists, block, grains, keep);
-    lent::put_guard(a, block);
-    stamps::allocate_tags(tags, block, grains, keep, place);
-    2 * block + place
+    let place = asked.place(found.block);
+    let keep = asked.keep(found.block);
+    links.leave(found.list, found.block);
+    deeds::enter_rest(links, found.block, found.grains, keep);
+    lent::put_guard(&mut *links.arena, found.block);
+    stamps::allocate_tags(tags, found.block, found.grains, keep, place);
+    2 * found.block + place
 }

@@ -1,37 +1,46 @@
--- What a size word tells of a block, as the code answers it: the grains of a free block, of a used one, or 0; and the tests
--- by which the code finds out.
-use Rattle.std.specs.Prelude.{ℕ, ◌+◌, ◌-◌, ◌*◌, ◌/◌, ◌%◌, ◌≤◌, ◌<◌, ◌≡◌, refl, Bool, true, false, eqb, length, List, ◌⊎◌}
+-- What a size word tells of a block, as the code answers it: the grains of a free block, of a used one, or none; and the
+-- tests by which the code finds out.
+use Rattle.std.specs.Prelude.{ℕ, ◌+◌, ◌-◌, ◌*◌, ◌/◌, ◌%◌, ◌≤◌, ◌<◌, ◌≡◌, refl, Bool, true, false, eqb, length, List, Option, None, Some, is_some}
 use native.Mathlib.Omega.{arith}
 use Rattle.std.proofs.Math.Path.{ap}
-use Rattle.std.proofs.Common.{sym, ◌∙◌, eq-eqb, ne_eqb, ⊎_elim}
+use Rattle.std.proofs.Common.{sym, ◌∙◌, subst, true≢false, eq-eqb, ne_eqb, ⊎_elim}
 use Rattle.choice.specs.Choice.{if_eq, eq_yes, eq_no, le_yes, eq_case, le_case, same?}
+use Rattle.choice.specs.Says.{Says}
 use Rattle.word.specs.Word.{word_at}
 use Rattle.script.specs.Memory.{none, free_word, used_word}
 use Rattle.sound.specs.Checks.{Word, is_free, is_used, is_last, is_bad, word_of}
 use Rattle.sound.proofs.Seen.{word_free, word_used, word_last}
 use Rattle.slices.specs.Decode.{size_of, link_of, wrong_size, grains, top_of}
-use Rattle.slices.proofs.Decode.{decoded_used}
 use Rattle.slices.specs.Arena.{size_at, link_at}
 use Rattle.slices.proofs.Arena.{size_in, link_in}
 use Rattle.header.specs.Turned.{turned, turned_in, turned_out, grains_few}
 
-abbrev pub free_of : Word → ℕ
-free_of (is_free s) = s
-free_of (is_used s) = 0
-free_of is_last = 0
-free_of is_bad = 0
+abbrev pub free_of : Word → Option ℕ
+free_of (is_free s) = Some s
+free_of (is_used s) = None
+free_of is_last = None
+free_of is_bad = None
 
-abbrev pub used_of : Word → ℕ
-used_of (is_free s) = 0
-used_of (is_used s) = s
-used_of is_last = 0
-used_of is_bad = 0
+abbrev pub used_of : Word → Option ℕ
+used_of (is_free s) = None
+used_of (is_used s) = Some s
+used_of is_last = None
+used_of is_bad = None
 
 abbrev pub busy_of : Word → Bool
 busy_of (is_free s) = false
 busy_of (is_used s) = true
 busy_of is_last = true
 busy_of is_bad = false
+
+-- ---- a comparison
+
+-- P holds where two words are the same, and only there
+pub says_eqb : (P : Type 0) (v w : ℕ) → (v ≡ w → P) → ((v ≡ w → ⊥) → P → ⊥) → Says P (eqb v w)
+says_eqb P v w f g = ⊎_elim
+    (λ (h : v ≡ w). subst (Says P) (sym (eq-eqb v w h)) (f h))
+    (λ (h : v ≡ w → ⊥). subst (Says P) (sym (ne_eqb v w h)) (g h))
+    (same? v w)
 
 -- ---- a word v at grain g of an arena of n
 
@@ -54,15 +63,15 @@ module _ (n g v : ℕ) where
       ap word_of (size_of_lem (turned v) (sym t.1) l p (omega arith) ∙ eq_yes (v % 32) 0 _ _ t.0) ∙ word_free (turned v) p
 
   -- no free block
-  pub not_free : g < n → n - g ≤ turned v → free_of (word_of (size_of 32 n g v)) ≡ 0
+  pub not_free : g < n → n - g ≤ turned v → free_of (word_of (size_of 32 n g v)) ≡ None
   unfolding size_of
   not_free i h =
-      eq_case (λ (x : ℕ). free_of (word_of x) ≡ 0) v 35 _ _ (λ _. rw word_last refl) λ _.
-      eq_case (λ (x : ℕ). free_of (word_of x) ≡ 0) (v / 32) 0 _ _ (λ _. rw wrong_is refl) λ z.
-      le_case (λ (x : ℕ). free_of (word_of x) ≡ 0) (g + v / 32 + 1) n _ _
-      (λ q. eq_case (λ (x : ℕ). free_of (word_of x) ≡ 0) (v % 32) 0 _ _
+      eq_case (λ (x : ℕ). free_of (word_of x) ≡ None) v 35 _ _ (λ _. rw word_last refl) λ _.
+      eq_case (λ (x : ℕ). free_of (word_of x) ≡ None) (v / 32) 0 _ _ (λ _. rw wrong_is refl) λ z.
+      le_case (λ (x : ℕ). free_of (word_of x) ≡ None) (g + v / 32 + 1) n _ _
+      (λ q. eq_case (λ (x : ℕ). free_of (word_of x) ≡ None) (v % 32) 0 _ _
       (λ e. absurd (omega (arith, turned_out (n - g) v h e)))
-      (λ _. eq_case (λ (x : ℕ). free_of (word_of x) ≡ 0) (v % 32) 1 _ _ (λ _. rw (word_used (v / 32) (omega (arith, z))) refl) (λ _. rw wrong_is refl)))
+      (λ _. eq_case (λ (x : ℕ). free_of (word_of x) ≡ None) (v % 32) 1 _ _ (λ _. rw (word_used (v / 32) (omega (arith, z))) refl) (λ _. rw wrong_is refl)))
       (λ _. rw wrong_is refl)
 
   -- less than a grain
@@ -73,7 +82,7 @@ module _ (n g v : ℕ) where
       ap word_of (eq_no v 35 _ _ (λ q. omega arith) ∙ eq_yes (v / 32) 0 _ _ a) ∙ wrong_is
 
   -- a used block
-  pub told_used : g < n → n < 576460752303423488 → 1 < v → turned (v - 1) < n - g → used_of (word_of (size_of 32 n g v)) ≡ turned (v - 1)
+  pub told_used : g < n → n < 576460752303423488 → 1 < v → turned (v - 1) < n - g → used_of (word_of (size_of 32 n g v)) ≡ Some (turned (v - 1))
   told_used i f z h =
       let t = turned_in n (v - 1) f (omega arith) in
       let e : v / 32 ≡ turned (v - 1) = omega (arith, t) in
@@ -84,15 +93,15 @@ module _ (n g v : ℕ) where
       ∙ ap used_of (word_used (turned (v - 1)) s)
 
   -- no used block
-  pub not_used : g < n → 1 < v → n - g ≤ turned (v - 1) → used_of (word_of (size_of 32 n g v)) ≡ 0
+  pub not_used : g < n → 1 < v → n - g ≤ turned (v - 1) → used_of (word_of (size_of 32 n g v)) ≡ None
   unfolding size_of
   not_used i nz h =
-      eq_case (λ (x : ℕ). used_of (word_of x) ≡ 0) v 35 _ _ (λ _. rw word_last refl) λ _.
-      eq_case (λ (x : ℕ). used_of (word_of x) ≡ 0) (v / 32) 0 _ _ (λ _. rw wrong_is refl) λ z.
-      le_case (λ (x : ℕ). used_of (word_of x) ≡ 0) (g + v / 32 + 1) n _ _
-      (λ q. eq_case (λ (x : ℕ). used_of (word_of x) ≡ 0) (v % 32) 0 _ _
+      eq_case (λ (x : ℕ). used_of (word_of x) ≡ None) v 35 _ _ (λ _. rw word_last refl) λ _.
+      eq_case (λ (x : ℕ). used_of (word_of x) ≡ None) (v / 32) 0 _ _ (λ _. rw wrong_is refl) λ z.
+      le_case (λ (x : ℕ). used_of (word_of x) ≡ None) (g + v / 32 + 1) n _ _
+      (λ q. eq_case (λ (x : ℕ). used_of (word_of x) ≡ None) (v % 32) 0 _ _
       (λ _. rw (word_free (v / 32) (omega (arith, z))) refl)
-      (λ _. eq_case (λ (x : ℕ). used_of (word_of x) ≡ 0) (v % 32) 1 _ _
+      (λ _. eq_case (λ (x : ℕ). used_of (word_of x) ≡ None) (v % 32) 1 _ _
       (λ e. absurd (omega (arith, turned_out (n - g) (v - 1) h (omega arith))))
       (λ _. rw wrong_is refl)))
       (λ _. rw wrong_is refl)
@@ -148,26 +157,23 @@ not_last n g v l =
     bad q = let h : is_bad ≡ is_last = sym wrong_is ∙ q in let c : ◌≡◌ {A = ℕ} 0 1 = cc in omega arith
 
 -- what is not used and no sentinel is not busy
-busy_not : (n g v : ℕ) → (v ≡ 35 → ⊥) → used_of (word_of (size_of 32 n g v)) ≡ 0 → busy_of (word_of (size_of 32 n g v)) ≡ false
+busy_not : (n g v : ℕ) → (v ≡ 35 → ⊥) → used_of (word_of (size_of 32 n g v)) ≡ None → busy_of (word_of (size_of 32 n g v)) ≡ false
 busy_not n g v l e = go (word_of (size_of 32 n g v)) refl e
   where
-    go : (w : Word) → word_of (size_of 32 n g v) ≡ w → used_of w ≡ 0 → busy_of w ≡ false
+    go : (w : Word) → word_of (size_of 32 n g v) ≡ w → used_of w ≡ None → busy_of w ≡ false
     go (is_free s) q h = refl
-    go (is_used s) q h = absurd (omega (arith, decoded_used 32 n g v s q))
+    go (is_used s) q h = absurd (true≢false (ap is_some h))
     go is_last q h = absurd (not_last n g v l q)
     go is_bad q h = refl
 
--- as the code asks it: a block of some grains in use is busy
-pub busy_used : (w : Word) (u : ℕ) → u ≡ used_of w → (u ≡ 0 → ⊥) → true ≡ busy_of w
-busy_used (is_free s) u e h = absurd (h e)
-busy_used (is_used s) u e h = refl
-busy_used is_last u e h = refl
-busy_used is_bad u e h = absurd (h e)
-
 -- and where there is none, the sentinel alone
-module _ (a : List ℕ) (g v : ℕ) (i : g < grains 8 a) (e : v ≡ word_at 8 a (4 * g + 0)) (u : ℕ) (q : u ≡ used_of (word_of (size_at 8 a g))) (z : u ≡ 0) where
-  unused_word : used_of (word_of (size_of 32 (grains 8 a) g v)) ≡ 0
-  unused_word = sym (q ∙ ap (λ (x : ℕ). used_of (word_of x)) (size_word a g v i e)) ∙ z
+module _ (a : List ℕ) (g v : ℕ) (i : g < grains 8 a) (e : v ≡ word_at 8 a (4 * g + 0)) (u : Option ℕ) (q : u ≡ used_of (word_of (size_at 8 a g))) (z : is_some u ≡ false) where
+  unused_word : used_of (word_of (size_of 32 (grains 8 a) g v)) ≡ None
+  unused_word = sym (q ∙ ap (λ (x : ℕ). used_of (word_of x)) (size_word a g v i e)) ∙ nothing u z
+    where
+      nothing : (u : Option ℕ) → is_some u ≡ false → u ≡ None
+      nothing None h = refl
+      nothing (Some x) h = absurd (true≢false h)
 
   pub busy_last : eqb v 35 ≡ busy_of (word_of (size_at 8 a g))
   busy_last = ⊎_elim

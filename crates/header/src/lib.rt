@@ -71,36 +71,36 @@ pub fn bytes_of(g: usize) -> u64
 
 // ---- what they say
 
-// The grains of the free block at g; 0 where no free block is.
-pub fn free_at(a: &[u8], g: usize) -> usize
+// The grains of the free block at g, where one is there.
+pub fn free_at(a: &[u8], g: usize) -> Option<usize>
     requires { g < grains 8 a.now }
     ensures { result ≡ free_of (word_of (size_at 8 a.now g)) }
 {
     let v = field(a, g, SIZE);
     if v == 0 {
-        return 0;
+        return None;
     }
     let free = grain_of(v);
     if count(a) - g <= free {
-        return 0;
+        return None;
     }
-    free
+    Some(free)
 }
 
-// The grains of the used block at g; 0 where no used block is.
-pub fn used_at(a: &[u8], g: usize) -> usize
+// The grains of the used block at g, where one is there.
+pub fn used_at(a: &[u8], g: usize) -> Option<usize>
     requires { g < grains 8 a.now }
     ensures { result ≡ used_of (word_of (size_at 8 a.now g)) }
 {
     let word = field(a, g, SIZE);
     if word <= 1 {
-        return 0;
+        return None;
     }
     let used = grain_of(word - 1);
     if count(a) - g <= used {
-        return 0;
+        return None;
     }
-    used
+    Some(used)
 }
 
 // Whether a used block or a sentinel is at g.
@@ -108,19 +108,14 @@ pub fn is_busy(a: &[u8], g: usize) -> bool
     requires { g < grains 8 a.now }
     ensures { result ≡ busy_of (word_of (size_at 8 a.now g)) }
 {
-    if used_at(a, g) != 0 {
-        return true;
-    }
-    field(a, g, SIZE) == SENTINEL
+    used_at(a, g).is_some() || field(a, g, SIZE) == SENTINEL
 }
 
 // Whether link f of grain g leads to grain y: one comparison of words.
+#[tactic(auto, using(crate::specs::Turned::grains_few))]
 pub fn leads(a: &[u8], g: usize, f: usize, y: usize) -> bool
     requires { (g < grains 8 a.now) × (f < 4) × (y < grains 8 a.now) }
     ensures { Says (link_at 8 a.now f 0 g ≡ y) result }
 {
-    if field(a, g, f) == bytes_of(y) {
-        return true;
-    }
-    false
+    field(a, g, f) == bytes_of(y)
 }

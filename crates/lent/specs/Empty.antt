@@ -1,6 +1,6 @@
 -- Tables with nothing but 0 in them (`Zeros`), and what such slices stand for: a heap to which nothing was given, whatever is
 -- in the arena.
-use Rattle.std.specs.Prelude.{ℕ, zero, ◌≡◌, List, length}
+use Rattle.std.specs.Prelude.{ℕ, ◌≡◌, List, length}
 use Rattle.table.specs.Table.{entry}
 
 -- u is as long as t, and 0 in every entry

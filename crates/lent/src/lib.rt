@@ -61,13 +61,7 @@ pub fn is_guarded(a: &[u8], x: usize) -> bool
     requires { x < grains a.now }
     ensures { Says ((next_at a.now x ≡ guard_next x) × (prev_at a.now x ≡ guard_prev x)) result }
 {
-    if next(a, x) != machine::guard_next(x as u64) {
-        return false;
-    }
-    if prev(a, x) != machine::guard_prev(x as u64) {
-        return false;
-    }
-    true
+    next(a, x) == machine::guard_next(x as u64) && prev(a, x) == machine::guard_prev(x as u64)
 }
 
 // The guard of the block at x.
@@ -167,7 +161,7 @@ const LARGE_STARTS: u16 = (START + LARGE) * COUNTS;
 pub fn count(tag: u16) -> usize
     ensures { result ≡ tag_of tag / flags }
 {
-    (tag % COUNTS) as usize
+    usize::from(tag % COUNTS)
 }
 
 // Its flags.
@@ -181,36 +175,21 @@ pub fn flags_of(tag: u16) -> u16
 pub fn starts_free(tag: u16) -> bool
     ensures { Says ((tag_of tag % flags ≡ START + FREE) × (1 ≤ tag_of tag / flags)) result }
 {
-    if tag <= FREE_STARTS {
-        return false;
-    }
-    if FREE_STARTS + COUNTS <= tag {
-        return false;
-    }
-    true
+    FREE_STARTS < tag && tag < FREE_STARTS + COUNTS
 }
 
 // Whether a block starts here that is not free.
 pub fn is_busy(tag: u16) -> bool
     ensures { Says (Busy (tag_of tag)) result }
 {
-    if tag < STARTS {
-        return false;
-    }
-    if SMALL_STARTS + COUNTS <= tag {
-        return false;
-    }
-    true
+    STARTS <= tag && tag < SMALL_STARTS + COUNTS
 }
 
 // Whether a free block starts or ends here.
 pub fn has_free(tag: u16) -> bool
     ensures { Says (tag_of tag % START ≡ FREE) result }
 {
-    if flags_of(tag) % START == FREE {
-        return true;
-    }
-    false
+    flags_of(tag) % START == FREE
 }
 
 // Whether it is one of s grains.
@@ -218,10 +197,7 @@ pub fn ends_free(tag: u16, s: usize) -> bool
     requires { s < piece }
     ensures { Says ((tag_of tag % START ≡ FREE) × (tag_of tag / flags ≡ s)) result }
 {
-    if tag % STARTS == FREES + s as u16 {
-        return true;
-    }
-    false
+    tag % STARTS == FREES + s as u16
 }
 
 // ---- tags made
@@ -247,13 +223,11 @@ pub fn first_tag(s: usize, d: usize) -> u16
     requires { s < piece }
     ensures { result ≡ tag_word (first_tag s d) }
 {
-    if d == 1 {
-        return SMALL_STARTS + s as u16;
+    match d {
+        1 => SMALL_STARTS + s as u16,
+        2 => LARGE_STARTS + s as u16,
+        _ => start_tag(s),
     }
-    if d == 2 {
-        return LARGE_STARTS + s as u16;
-    }
-    start_tag(s)
 }
 
 // The first of a used block of s grains with more padding, and a sentinel's.

@@ -60,7 +60,7 @@ pub fn guard_next(x: u64) -> u64
     requires { x < words / grain }
     ensures { result ≡ guard_next x }
 {
-    std::num::wrapping_add_u64(FIRST_PATTERN, GRAIN as u64 * x)
+    FIRST_PATTERN.wrapping_add(GRAIN as u64 * x)
 }
 
 // The second.
@@ -68,5 +68,5 @@ pub fn guard_prev(x: u64) -> u64
     requires { x < words / grain }
     ensures { result ≡ guard_prev x }
 {
-    std::num::wrapping_add_u64(SECOND_PATTERN, GRAIN as u64 * x)
+    SECOND_PATTERN.wrapping_add(GRAIN as u64 * x)
 }

@@ -1,9 +1,9 @@
 -- A free neighbour of a used block leaves its list: what is written then, and what its leaving changes of what was read
 -- before it. The two neighbours may be beside each other in one list, and one of them may be the head of the list to which
--- a joined or left-over block goes. Links are words of the arena; a neighbour of 0 grains is not there.
-use Prim.Native.Nat.{ℕ, zero, suc, ◌+◌, ◌*◌, ◌<◌}
+-- a joined or left-over block goes. Links are words of the arena.
+use Prim.Native.Nat.{ℕ, ◌*◌, ◌<◌}
 use native.Mathlib.Omega.{arith}
-use Rattle.std.specs.Prelude.{◌≡◌, List, [], ◌∷◌, ◌++◌, length}
+use Rattle.std.specs.Prelude.{◌≡◌, List, [], ◌∷◌, ◌++◌, length, Option, Some, None, IfSome}
 use Rattle.std.proofs.Math.Path.{refl, ap, sym}
 use Rattle.std.proofs.Common.{◌∙◌, inl, inr, ⊎_elim}
 use Rattle.choice.specs.Choice.{if_eq, eq_yes, eq_no, eq_case, same?}
@@ -12,63 +12,18 @@ use Rattle.sound.specs.Links.{node, unlink_writes}
 use Rattle.slices.specs.Decode.{grains}
 use Rattle.header.specs.Turned.{grains_few}
 use Rattle.header.specs.Told.{link_leads, link_only}
+use Rattle.neighbours.specs.declared.Neighbour.{Neighbour}
 use Rattle.free_list.specs.Lent.{no_link, link, Leads, below_none, link_none, link_grain}
 
--- ---- the words
+-- the head h of list j, but x where a neighbour was there behind nothing and before x
+abbrev pub headed : Option Neighbour → ℕ → ℕ → ℕ
+headed None j h = h
+headed (Some e) j h = if_eq e.prev no_link (if_eq e.list j e.next h) h
 
--- v, but w where a neighbour of g grains is there and its link b is the word k
-unfoldable pub relinked : ℕ → ℕ → ℕ → ℕ → ℕ → ℕ
-relinked zero b k w v = v
-relinked (suc g) b k w v = if_eq b k w v
-
--- h, the head of list j, but x where a neighbour of g grains is there, in list k behind nothing and before x
-unfoldable pub headed : ℕ → ℕ → ℕ → ℕ → ℕ → ℕ → ℕ
-headed zero k x p j h = h
-headed (suc g) k x p j h = if_eq p no_link (if_eq k j x h) h
-
--- ---- as the code finds them
-
-pub relinked_nobody : (g b k w v : ℕ) → g ≡ 0 → v ≡ relinked g b k w v
-unfolding relinked
-relinked_nobody zero b k w v e = refl
-relinked_nobody (suc g) b k w v e = absurd (omega arith)
-
-pub relinked_same : (g b k w v : ℕ) → (g ≡ 0 → ⊥) → b ≡ k → w ≡ relinked g b k w v
-unfolding relinked
-relinked_same zero b k w v n e = absurd (n refl)
-relinked_same (suc g) b k w v n e = sym (eq_yes b k w v e)
-
-pub relinked_other : (g b k w v : ℕ) → (g ≡ 0 → ⊥) → (b ≡ k → ⊥) → v ≡ relinked g b k w v
-unfolding relinked
-relinked_other zero b k w v n e = absurd (n refl)
-relinked_other (suc g) b k w v n e = sym (eq_no b k w v e)
-
-pub headed_nobody : (g k x p j h : ℕ) → g ≡ 0 → h ≡ headed g k x p j h
-unfolding headed
-headed_nobody zero k x p j h e = refl
-headed_nobody (suc g) k x p j h e = absurd (omega arith)
-
-pub headed_behind : (g k x p j h : ℕ) → (g ≡ 0 → ⊥) → (p ≡ no_link → ⊥) → h ≡ headed g k x p j h
-unfolding headed
-headed_behind zero k x p j h n e = absurd (n refl)
-headed_behind (suc g) k x p j h n e = sym (eq_no p no_link (if_eq k j x h) h e)
-
-pub headed_elsewhere : (g k x p j h : ℕ) → (g ≡ 0 → ⊥) → p ≡ no_link → (k ≡ j → ⊥) → h ≡ headed g k x p j h
-unfolding headed
-headed_elsewhere zero k x p j h n e d = absurd (n refl)
-headed_elsewhere (suc g) k x p j h n e d = sym (eq_yes p no_link (if_eq k j x h) h e ∙ eq_no k j x h d)
-
-pub headed_there : (g k x p j h : ℕ) → (g ≡ 0 → ⊥) → p ≡ no_link → k ≡ j → x ≡ headed g k x p j h
-unfolding headed
-headed_there zero k x p j h n e d = absurd (n refl)
-headed_there (suc g) k x p j h n e d = sym (eq_yes p no_link (if_eq k j x h) h e ∙ eq_yes k j x h d)
-
--- ---- the writes
-
--- a neighbour of g grains in list k, before x and behind p, leaves
-abbrev pub leaving : List ℕ → ℕ → ℕ → ℕ → ℕ → List Write
-leaving a zero k x p = []
-leaving a (suc g) k x p = unlink_writes k (link a x) (link a p)
+-- a neighbour leaves
+abbrev pub leaving_of : List ℕ → Option Neighbour → List Write
+leaving_of a None = []
+leaving_of a (Some e) = unlink_writes e.list (link a e.next) (link a e.prev)
 
 pub latest_append : (u w : List Write) (f y v : ℕ) → latest (u ++ w) f y v ≡ latest w f y (latest u f y v)
 latest_append [] w f y v = refl
@@ -124,23 +79,16 @@ module _ (a : List ℕ) (k x p : ℕ) (s : length a < 18446744073709551616) wher
       (same? (link a p) none)
 
   -- the next of z
-  pub next_after : (g z v : ℕ) → z < grains 8 a → link a (relinked g p (32 * z) x v) ≡ latest (leaving a g k x p) Next z (link a v)
-  unfolding relinked
-  next_after zero z v h = refl
-  next_after (suc g) z v h =
-      word_choice z p x v h ∙ sym (behind_next k (link a x) (link a p) z _ ∙ node_choice z (link a x) (link a v) h)
+  pub next_after : (z v : ℕ) → z < grains 8 a → link a (if_eq p (32 * z) x v) ≡ latest (unlink_writes k (link a x) (link a p)) Next z (link a v)
+  next_after z v h = word_choice z p x v h ∙ sym (behind_next k (link a x) (link a p) z _ ∙ node_choice z (link a x) (link a v) h)
 
   -- the previous of z
-  pub prev_after : (g z v : ℕ) → z < grains 8 a → link a (relinked g x (32 * z) p v) ≡ latest (leaving a g k x p) Prev z (link a v)
-  unfolding relinked
-  prev_after zero z v h = refl
-  prev_after (suc g) z v h = word_choice z x p v h ∙ sym (behind_prev k (link a x) (link a p) z (link a v) (λ e. omega (arith, below_none a s)))
+  pub prev_after : (z v : ℕ) → z < grains 8 a → link a (if_eq x (32 * z) p v) ≡ latest (unlink_writes k (link a x) (link a p)) Prev z (link a v)
+  prev_after z v h = word_choice z x p v h ∙ sym (behind_prev k (link a x) (link a p) z (link a v) (λ e. omega (arith, below_none a s)))
 
   -- the head of list j
-  pub head_after : (g j h : ℕ) → ((g ≡ 0 → ⊥) → Leads a p) → link a (headed g k x p j h) ≡ latest (leaving a g k x p) Next (root j) (link a h)
-  unfolding headed
-  head_after zero j h d = refl
-  head_after (suc g) j h d = go (d (λ e. omega arith)) ∙ sym (behind_next k (link a x) (link a p) (root j) _)
+  headed_after : (j h : ℕ) → Leads a p → link a (if_eq p no_link (if_eq k j x h) h) ≡ latest (unlink_writes k (link a x) (link a p)) Next (root j) (link a h)
+  headed_after j h d = go d ∙ sym (behind_next k (link a x) (link a p) (root j) _)
     where
       go : Leads a p → link a (if_eq p no_link (if_eq k j x h) h) ≡ if_eq (root j) (node k (link a p)) (link a x) (link a h)
       go (inl e) =
@@ -153,3 +101,8 @@ module _ (a : List ℕ) (k x p : ℕ) (s : length a < 18446744073709551616) wher
           ap (link a) (eq_no p no_link (if_eq k j x h) h (λ e. n (link_none a p s e)))
           ∙ sym (eq_no (root j) (link a p) (link a x) (link a h) (λ e. omega arith))
           ∙ ap (λ (n : ℕ). if_eq (root j) n (link a x) (link a h)) (sym (eq_no (link a p) none (root k) (link a p) n))
+
+pub head_after : (a : List ℕ) (e : Option Neighbour) (j h : ℕ) → length a < 18446744073709551616 → IfSome e (λ n. Leads a n.prev)
+    → link a (headed e j h) ≡ latest (leaving_of a e) Next (root j) (link a h)
+head_after a None j h s d = refl
+head_after a (Some e) j h s d = headed_after a e.list e.next e.prev s j h d

@@ -1,30 +1,33 @@
 -- The steps of `see_behind` and of `see_before`, as the code takes them: at each return one law says what the script answers.
 use Prim.Native.Nat.{ℕ, suc, ◌+◌, ◌-◌, ◌*◌, ◌≤◌, ◌<◌}
 use native.Mathlib.Omega.{arith}
-use Rattle.std.specs.Prelude.{◌≡◌, refl, Bool, true, false, List, length}
+use Rattle.std.specs.Prelude.{◌≡◌, refl, true, false, List, length, Some, None, Result, Ok, Err, IfOk}
 use Rattle.std.proofs.Math.Path.{ap, sym}
-use Rattle.std.proofs.Common.{◌∙◌, ⊎_elim}
+use Rattle.std.proofs.Common.{◌∙◌, ⊎_elim, subst}
 use Rattle.choice.specs.Choice.{eq_yes, eq_no, le?}
 use Rattle.class.specs.Class.{list_of}
 use Rattle.word.specs.Word.{word_at}
 use Rattle.bits.specs.Map.{lists}
 use Rattle.script.specs.Memory.{Memory, Size, Before, none}
-use Rattle.script.specs.Script.{Script, Result, run, ok, no, done, ◌>>=◌, ◌>>◌, must_eq, must_le}
+use Rattle.script.specs.Script.{Script, run, ok, no, done, ◌>>=◌, ◌>>◌, must_eq, must_le}
+use Rattle.script.specs.Script.{Result as Answer}
 use Rattle.script.proofs.Script.{goes, halts, reads, gives_done, gives_eq, gives_le, halts_eq, halts_le, runs_stop}
-use Rattle.sound.specs.Checks.{Word, is_free, is_used, is_last, is_bad, word_of, Entry, Beside, nobody, somebody, as_busy, must_busy, must_lead, must_list, see_entry, free_behind, as_behind, see_behind, as_before, see_before}
+use Rattle.sound.specs.Checks.{Word, is_free, is_used, is_last, is_bad, word_of, Beside, nobody, somebody, as_busy, must_busy, must_lead, must_list, see_entry, free_behind, as_behind, see_behind, as_before, see_before}
 use Rattle.slices.specs.Decode.{grains, Inside}
 use Rattle.slices.specs.Arena.{size_at, link_at}
 use Rattle.slices.proofs.Arena.{size_inside}
 use Rattle.slices.proofs.Slices.{memory_size}
 use Rattle.header.specs.Turned.{turned}
 use Rattle.header.specs.Told.{free_of, busy_of}
-use Rattle.free_list.specs.Lent.{lent, held, classes, no_link, link, link_none, link_some, link_grain}
-use Rattle.free_list.specs.Answers.{answer}
-use Rattle.free_list.specs.Seen.{shown_entry}
+use Rattle.free_list.specs.Lent.{lent, held, classes, no_link, link, Holds, link_none, link_some, link_grain}
+use Rattle.free_list.specs.Seen.{SeenEntry}
+use Rattle.refusal.specs.Answered.{answered_as}
+use Rattle.refusal.specs.declared.Refusal.{Refusal}
+use Rattle.refusal.specs.declared.Refusal.TheVariants.{Damaged}
 use Rattle.free_list.specs.declared.Entry.{Entry as EntryAnswer}
-use Rattle.neighbours.specs.declared.Beside.{Beside as BesideAnswer}
-use Rattle.neighbours.specs.Size.{Spelled, word_spelled, free_word_lem, used_word_lem}
-use Rattle.neighbours.specs.Shown.{before_read, before_link, link_from, alone, shown_beside, someone, someone_is, SeenBeside}
+use Rattle.neighbours.specs.declared.Neighbour.{Neighbour}
+use Rattle.neighbours.specs.Size.{Spelled, word_spelled, free_some, free_word_lem, used_word_lem}
+use Rattle.neighbours.specs.Shown.{before_read, before_link, link_from, linked, Block}
 
 -- ---- a free block in the list of its size
 
@@ -35,50 +38,45 @@ see_listed n t y = do
   done (somebody t e)
 
 -- the answer on t grains at y is that of the script, and a block that was seen has t grains
-abbrev pub SeenListed : List ℕ → List ℕ → ℕ → ℕ → BesideAnswer → Type 0
-SeenListed a l t y r = SeenBeside a l (see_listed (grains 8 a) t y) y r × ((r.grains ≡ 0 → ⊥) → r.grains ≡ t)
+pub record SeenListed (a l : List ℕ) (t y : ℕ) (r : Result Neighbour Refusal) : Type 0 where
+  pub answer : (v o : List ℕ) → answered_as (linked a) r ≡ run (held a l v o) (see_listed (grains 8 a) t y)
+  pub block : IfOk r (λ e. (e.grains ≡ t) × Block a y e)
 
-module _ (a l v r : List ℕ) (t y k : ℕ) (j : k ≡ list_of t) where
+module _ (a l : List ℕ) (t y k : ℕ) (j : k ≡ list_of t) where
   -- the size has no list
-  pub listed_none : lists ≤ k → no 5 ≡ run (held a l v r) (see_listed (grains 8 a) t y)
-  listed_none h = let m = held a l v r in sym (halts m (must_list classes t) _ (halts_le m 5 (suc (list_of t)) lists (omega arith)))
+  pub listed_none : lists ≤ k → SeenListed a l t y (Err Damaged)
+  listed_none h = record {
+    answer = λ v o. let m = held a l v o in sym (halts m (must_list classes t) _ (halts_le m 5 (suc (list_of t)) lists (omega arith)));
+    block = tt;
+  }
 
-  -- the rest hangs on the list
-  pub listed_entry : k < lists → 1 ≤ t → (e : EntryAnswer) → shown_entry a e ≡ run (held a l v r) (see_entry (grains 8 a) k y)
-      → shown_beside a (record { ok = e.ok; grains = t; list = k; next = e.next; prev = e.prev }) ≡ run (held a l v r) (see_listed (grains 8 a) t y)
-  listed_entry h p e q =
-      let m = held a l v r in
-      go e.ok (q ∙ ap (λ (i : ℕ). run m (see_entry (grains 8 a) i y)) j)
-      ∙ sym (goes m (must_list classes t) _ (gives_le m 5 (suc (list_of t)) lists (omega arith)))
-    where
-      found : Entry
-      found = record { next = link a e.next; prev = link a e.prev }
+  module _ (h : k < lists) where
+    -- the rest hangs on the list
+    listed : (v o : List ℕ) → run (held a l v o) (see_listed (grains 8 a) t y) ≡ run (held a l v o) (see_entry (grains 8 a) k y >>= (λ e. done (somebody t e)))
+    listed v o =
+        let m = held a l v o in
+        goes m (must_list classes t) _ (gives_le m 5 (suc (list_of t)) lists (omega arith))
+        ∙ ap (λ (i : ℕ). run m (see_entry (grains 8 a) i y >>= (λ e. done (somebody t e)))) (sym j)
 
-      go : (b : Bool) → answer b found ≡ run (held a l v r) (see_entry (grains 8 a) (list_of t) y)
-          → answer b (someone t found) ≡ run (held a l v r) (see_entry (grains 8 a) (list_of t) y >>= (λ e. done (somebody t e)))
-      go true q =
-          let m = held a l v r in
-          ap ok (someone_is t found p) ∙ sym (goes m (see_entry (grains 8 a) (list_of t) y) _ (sym q) ∙ gives_done m (somebody t found))
-      go false q = sym (halts (held a l v r) (see_entry (grains 8 a) (list_of t) y) _ (sym q))
+    -- where it doesn't stand
+    pub listed_refused : (r : Refusal) → SeenEntry a l k y (Err r) → SeenListed a l t y (Err r)
+    listed_refused r q = record { answer = λ v o. sym (listed v o ∙ halts (held a l v o) (see_entry (grains 8 a) k y) _ (sym (q v o))); block = tt }
+
+    -- where it does
+    pub listed_entry : (e : EntryAnswer) → SeenEntry a l k y (Ok e) → Holds a y e.next e.prev
+        → SeenListed a l t y (Ok (record { grains = t; list = k; next = e.next; prev = e.prev }))
+    listed_entry e q w = record {
+      answer = λ v o. sym (listed v o ∙ goes (held a l v o) (see_entry (grains 8 a) k y) _ (sym (q v o)) ∙ gives_done (held a l v o) _);
+      block = (refl, record { list = j; links = w });
+    }
 
 -- ---- what a size word says
 
 -- a free block of t grains at y has a grain of the arena behind it
-pub free_inside : (a : List ℕ) (y t : ℕ) → t ≡ free_of (word_of (size_at 8 a y)) → (t ≡ 0 → ⊥) → (1 ≤ t) × (y + t < grains 8 a)
-free_inside a y t e ne = go (word_of (size_at 8 a y)) e (size_inside 8 a y)
-  where
-    go : (w : Word) → t ≡ free_of w → Inside (grains 8 a) y w → (1 ≤ t) × (y + t < grains 8 a)
-    go (is_free u) e i = (omega (arith, i.0), omega (arith, i.1))
-    go (is_used u) e i = absurd (ne e)
-    go is_last e i = absurd (ne e)
-    go is_bad e i = absurd (ne e)
-
--- the word of a free block
-free_some : (w : Word) → (free_of w ≡ 0 → ⊥) → w ≡ is_free (free_of w)
-free_some (is_free s) h = refl
-free_some (is_used s) h = absurd (h refl)
-free_some is_last h = absurd (h refl)
-free_some is_bad h = absurd (h refl)
+pub free_inside : (a : List ℕ) (y t : ℕ) → Some t ≡ free_of (word_of (size_at 8 a y)) → (1 ≤ t) × (y + t < grains 8 a)
+free_inside a y t e =
+    let i = subst (Inside (grains 8 a) y) (free_some (word_of (size_at 8 a y)) t (sym e)) (size_inside 8 a y) in
+    (i.0, omega (arith, i.1))
 
 module _ (m : Memory) where
   -- a busy block passes, and no other
@@ -109,28 +107,37 @@ module _ (m : Memory) where
 
 -- ---- behind a used block
 
-module _ (a l v r : List ℕ) (y t : ℕ) (f : t ≡ free_of (word_of (size_at 8 a y))) where
+module _ (a l v r : List ℕ) (y : ℕ) where
   -- the size word is read
   behind_word : run (held a l v r) (see_behind (grains 8 a) classes y) ≡ run (held a l v r) (as_behind (grains 8 a) classes y (word_of (size_at 8 a y)))
   unfolding see_behind
   behind_word = reads (held a l v r) Size y _ (memory_size 8 (lent a l v r) y)
 
-  -- no free block: a busy one, or none
-  pub behind_busy : t ≡ 0 → (b : Bool) → b ≡ busy_of (word_of (size_at 8 a y)) → shown_beside a (alone b) ≡ run (held a l v r) (see_behind (grains 8 a) classes y)
-  behind_busy z b e = go (word_of (size_at 8 a y)) e (sym z ∙ f) (size_inside 8 a y) ∙ sym behind_word
-    where
-      go : (w : Word) → b ≡ busy_of w → 0 ≡ free_of w → Inside (grains 8 a) y w → shown_beside a (alone b) ≡ run (held a l v r) (as_behind (grains 8 a) classes y w)
-      go (is_free s) e q i = absurd (omega (arith, i.0))
-      go (is_used s) e q i = ap (λ (b : Bool). shown_beside a (alone b)) e ∙ sym (gives_done (held a l v r) nobody)
-      go is_last e q i = ap (λ (b : Bool). shown_beside a (alone b)) e ∙ sym (gives_done (held a l v r) nobody)
-      go is_bad e q i = ap (λ (b : Bool). shown_beside a (alone b)) e ∙ sym (runs_stop (held a l v r) 5)
+  module _ (f : None ≡ free_of (word_of (size_at 8 a y))) where
+    -- no free block, but a busy one
+    pub behind_busy : true ≡ busy_of (word_of (size_at 8 a y)) → ok nobody ≡ run (held a l v r) (see_behind (grains 8 a) classes y)
+    behind_busy b = go (word_of (size_at 8 a y)) b ∙ sym behind_word
+      where
+        go : (w : Word) → true ≡ busy_of w → ok nobody ≡ run (held a l v r) (as_behind (grains 8 a) classes y w)
+        go (is_free s) e = cc
+        go (is_used s) e = sym (gives_done (held a l v r) nobody)
+        go is_last e = sym (gives_done (held a l v r) nobody)
+        go is_bad e = cc
 
-  module _ (z : t ≡ 0 → ⊥) where
+    -- nor a busy one
+    pub behind_bad : false ≡ busy_of (word_of (size_at 8 a y)) → no 5 ≡ run (held a l v r) (see_behind (grains 8 a) classes y)
+    behind_bad b = go (word_of (size_at 8 a y)) f b ∙ sym behind_word
+      where
+        go : (w : Word) → None ≡ free_of w → false ≡ busy_of w → no 5 ≡ run (held a l v r) (as_behind (grains 8 a) classes y w)
+        go (is_free s) e b = cc
+        go (is_used s) e b = cc
+        go is_last e b = cc
+        go is_bad e b = sym (runs_stop (held a l v r) 5)
+
+  module _ (t : ℕ) (f : Some t ≡ free_of (word_of (size_at 8 a y))) where
     -- a free block
     behind_free : run (held a l v r) (see_behind (grains 8 a) classes y) ≡ run (held a l v r) (free_behind (grains 8 a) classes y t)
-    behind_free =
-        let w : word_of (size_at 8 a y) ≡ is_free t = free_some (word_of (size_at 8 a y)) (λ p. z (f ∙ p)) ∙ ap is_free (sym f) in
-        behind_word ∙ ap (λ (w : Word). run (held a l v r) (as_behind (grains 8 a) classes y w)) w
+    behind_free = behind_word ∙ ap (λ (w : Word). run (held a l v r) (as_behind (grains 8 a) classes y w)) (free_some (word_of (size_at 8 a y)) t (sym f))
 
     -- no busy block is behind it
     pub behind_idle : false ≡ busy_of (word_of (size_at 8 a (y + t))) → no 5 ≡ run (held a l v r) (see_behind (grains 8 a) classes y)
@@ -152,14 +159,14 @@ module _ (a l v r : List ℕ) (y t : ℕ) (f : t ≡ free_of (word_of (size_at 8
       behind_torn ne =
           let m = held a l v r in
           sym (behind_end ∙ late_halts m (suc (list_of t)) lists (must_lead Before (y + t) y) _
-          (reads m Before (y + t) _ (before_read a l v r (y + t) (free_inside a y t f z).1) ∙ halts_eq m 5 _ y ne))
+          (reads m Before (y + t) _ (before_read a l v r (y + t) (free_inside a y t f).1) ∙ halts_eq m 5 _ y ne))
 
       -- the rest hangs on the list
-      pub behind_listed : link_at 8 a Before 0 (y + t) ≡ y → {o : Result Beside} → o ≡ run (held a l v r) (see_listed (grains 8 a) t y) → o ≡ run (held a l v r) (see_behind (grains 8 a) classes y)
+      pub behind_listed : link_at 8 a Before 0 (y + t) ≡ y → {o : Answer Beside} → o ≡ run (held a l v r) (see_listed (grains 8 a) t y) → o ≡ run (held a l v r) (see_behind (grains 8 a) classes y)
       behind_listed e q =
           let m = held a l v r in
           q ∙ sym (behind_end ∙ late_goes m (suc (list_of t)) lists (must_lead Before (y + t) y) _
-          (reads m Before (y + t) _ (before_read a l v r (y + t) (free_inside a y t f z).1) ∙ gives_eq m 5 _ y e))
+          (reads m Before (y + t) _ (before_read a l v r (y + t) (free_inside a y t f).1) ∙ gives_eq m 5 _ y e))
 
 -- ---- before a used block
 
@@ -213,7 +220,7 @@ module _ (a l v r : List ℕ) (x w : ℕ) (s : length a < 18446744073709551616) 
             ∙ goes m (must_eq (z + (x - z)) x) _ (gives_eq m 5 (z + (x - z)) x reaches) ∙ gives_done m nobody)
 
         -- a free block: the rest hangs on the list
-        pub before_listed : u ≡ b → {o : Result Beside} → o ≡ run (held a l v r) (see_listed (grains 8 a) (x - z) z) → o ≡ run (held a l v r) (see_before (grains 8 a) classes x)
+        pub before_listed : u ≡ b → {o : Answer Beside} → o ≡ run (held a l v r) (see_listed (grains 8 a) (x - z) z) → o ≡ run (held a l v r) (see_before (grains 8 a) classes x)
         before_listed q k =
             let m = held a l v r in
             k ∙ sym (before_is (is_free (x - z)) (free_word_lem a z (x - z) u s (omega arith) inside f (omega arith))

@@ -1,8 +1,8 @@
 -- The steps of `see_owner`, and of `block_of`, as the code takes them: at each return one law says what the script answers.
-use Rattle.std.specs.Prelude.{ℕ, suc, ◌+◌, ◌-◌, ◌*◌, ◌/◌, ◌%◌, ◌≤◌, ◌<◌, ◌≡◌, refl, List, length}
-use Rattle.std.proofs.Common.{arith, ap, ◌∙◌}
+use Rattle.std.specs.Prelude.{ℕ, suc, ◌+◌, ◌-◌, ◌*◌, ◌/◌, ◌%◌, ◌≤◌, ◌<◌, ◌≡◌, refl, List, length, Some, None, Result, Ok, Err}
+use Rattle.std.proofs.Common.{arith, ap, ◌∙◌, subst}
 use Rattle.std.proofs.Math.Path.{sym}
-use Rattle.choice.specs.Choice.{eq_yes, eq_no, le_yes, le_no}
+use Rattle.choice.specs.Choice.{eq_yes, eq_no}
 use Rattle.word.specs.Word.{word_at}
 use Rattle.bits.specs.TableBit.{table_bit}
 use Rattle.script.specs.Memory.{Memory, Size, Before, Prev, Live}
@@ -17,14 +17,17 @@ use Rattle.header.specs.Turned.{turned}
 use Rattle.header.specs.Told.{used_of}
 use Rattle.free_list.specs.Lent.{lent, held, link, link_grain}
 use Rattle.neighbours.specs.Size.{used_some}
-use Rattle.neighbours.specs.Shown.{before_read, link_from, shown_owner, shown_grain}
+use Rattle.refusal.specs.Answered.{answered_as}
+use Rattle.refusal.specs.declared.Refusal.{Refusal}
+use Rattle.refusal.specs.declared.Refusal.TheVariants.{Damaged}
+use Rattle.neighbours.specs.Shown.{before_read, link_from, owned, SeenBlock}
 use Rattle.neighbours.specs.declared.Owner.{Owner as OwnerAnswer}
 
 -- ---- the grain of the block
 
 module _ (m : Memory) (q : ℕ) where
   -- the payload is in the middle of a grain
-  block_odd : q % 2 ≡ 1 → run m (block_of q) ≡ ok (q / 2)
+  pub block_odd : q % 2 ≡ 1 → run m (block_of q) ≡ ok (q / 2)
   block_odd e = ap (run m) (eq_yes (q % 2) 1 _ _ e) ∙ gives_done m (q / 2)
 
   -- the payload is at a grain, and the word before it says v
@@ -39,39 +42,30 @@ module _ (m : Memory) (q : ℕ) where
   block_in : (q % 2 ≡ 1 → ⊥) → {v : ℕ} → m Prev (q / 2 - 1) ≡ v → v < q / 2 → run m (block_of q) ≡ ok v
   block_in ne {v} e h = block_even ne e ∙ goes m (must_le (suc v) (q / 2)) _ (gives_le m 5 (suc v) (q / 2) h) ∙ gives_done m v
 
--- a grain of the arena is an answer, and no other number
-shown_in : (n x : ℕ) → x < n → shown_grain n x ≡ ok x
-shown_in n x h = le_yes (suc x) n _ _ h
-
-shown_out : (n x : ℕ) → n ≤ x → shown_grain n x ≡ no 5
-shown_out n x h = le_no (suc x) n _ _ (λ q. omega arith)
-
 -- as the code finds it in the lent slices
-module _ (a l v t : List ℕ) (q : ℕ) (i : q < 2 * grains 8 a) where
-  -- half a grain before the payload
-  pub block_middle : q % 2 ≡ 1 → shown_grain (grains 8 a) (q / 2) ≡ run (held a l v t) (block_of q)
-  block_middle e = shown_in (grains 8 a) (q / 2) (omega arith) ∙ sym (block_odd (held a l v t) q e)
+module _ (a : List ℕ) (q : ℕ) (i : q < 2 * grains 8 a) (ne : q % 2 ≡ 1 → ⊥) where
+  -- nothing is before the arena's first grain
+  pub block_first : q / 2 ≡ 0 → SeenBlock a q (Err Damaged)
+  block_first e = record { answer = λ l v t. sym (block_out (held a l v t) q ne (omega arith)); inside = tt }
 
-  module _ (ne : q % 2 ≡ 1 → ⊥) (n : ℕ) (c : n ≡ grains 8 a) where
-    -- nothing is before the arena's first grain
-    pub block_first : q / 2 ≡ 0 → shown_grain (grains 8 a) n ≡ run (held a l v t) (block_of q)
-    block_first e = shown_out (grains 8 a) n (omega arith) ∙ sym (block_out (held a l v t) q ne (omega arith))
+  module _ (s : length a < 18446744073709551616) (w x : ℕ) (e : w ≡ word_at 8 a (4 * (q / 2 - 1) + 3)) (f : x ≡ turned w) where
+    -- the word before the payload, as a link
+    own_link : (l v t : List ℕ) → held a l v t Prev (q / 2 - 1) ≡ link a w
+    own_link l v t = memory_prev 8 (lent a l v t) (q / 2 - 1) ∙ link_in 8 a (q / 2 - 1) Prev wrong_link (omega arith) ∙ ap (link a) (sym e)
 
-    module _ (s : length a < 18446744073709551616) (w x : ℕ) (e : w ≡ word_at 8 a (4 * (q / 2 - 1) + 3)) (f : x ≡ turned w) where
-      -- the word before the payload, as a link
-      own_link : held a l v t Prev (q / 2 - 1) ≡ link a w
-      own_link = memory_prev 8 (lent a l v t) (q / 2 - 1) ∙ link_in 8 a (q / 2 - 1) Prev wrong_link (omega arith) ∙ ap (link a) (sym e)
+    -- which leads to no grain before it
+    pub block_past : q / 2 ≤ x → SeenBlock a q (Err Damaged)
+    block_past h = record {
+      answer = λ l v t. sym (block_out (held a l v t) q ne (rw (own_link l v t) (link_from a w (q / 2) s (omega arith) (omega arith))));
+      inside = tt;
+    }
 
-      -- which leads to no grain before it
-      pub block_past : q / 2 ≤ x → shown_grain (grains 8 a) n ≡ run (held a l v t) (block_of q)
-      block_past h = shown_out (grains 8 a) n (omega arith) ∙ sym (block_out (held a l v t) q ne (rw own_link (link_from a w (q / 2) s (omega arith) (omega arith))))
-
-      -- which leads to one
-      pub block_before : x < q / 2 → shown_grain (grains 8 a) x ≡ run (held a l v t) (block_of q)
-      block_before h =
-          let b : turned w < grains 8 a = omega arith in
-          let g = link_grain a w s b in
-          shown_in (grains 8 a) x (omega arith) ∙ sym (block_in (held a l v t) q ne (own_link ∙ g ∙ sym f) h)
+    -- which leads to one
+    pub block_before : x < q / 2 → SeenBlock a q (Ok x)
+    block_before h =
+        let b : turned w < grains 8 a = omega arith in
+        let g = link_grain a w s b in
+        record { answer = λ l v t. sym (block_in (held a l v t) q ne (own_link l v t ∙ g ∙ sym f) h); inside = omega arith }
 
 -- ---- the block
 
@@ -82,8 +76,8 @@ end_at x s = do
   done (record { at = x; grains = s })
 
 -- the answer on it is the script's
-abbrev pub SeenEnd : List ℕ → ℕ → ℕ → OwnerAnswer → Type 0
-SeenEnd a x s r = (l v t : List ℕ) → shown_owner r ≡ run (held a l v t) (end_at x s)
+abbrev pub SeenEnd : List ℕ → ℕ → ℕ → Result OwnerAnswer Refusal → Type 0
+SeenEnd a x s r = (l v t : List ℕ) → answered_as owned r ≡ run (held a l v t) (end_at x s)
 
 -- after the payload is seen to start before it
 abbrev pub owner_of : ℕ → ℕ → ℕ → Script Owner
@@ -94,21 +88,17 @@ abbrev pub owner_at : ℕ → ℕ → Script Owner
 owner_at q x = must_used x >>= owner_of q x
 
 -- only the word of a used block passes
-used_none : (m : Memory) (n g : ℕ) (w : Word) → Inside n g w → used_of w ≡ 0 → run m (as_used w) ≡ no 5
-used_none m n g (is_free s) i h = runs_stop m 5
-used_none m n g (is_used s) i h = absurd (omega (arith, i.0))
-used_none m n g is_last i h = runs_stop m 5
-used_none m n g is_bad i h = runs_stop m 5
+used_none : (m : Memory) (w : Word) → None ≡ used_of w → run m (as_used w) ≡ no 5
+used_none m (is_free s) e = runs_stop m 5
+used_none m (is_used s) e = cc
+used_none m is_last e = runs_stop m 5
+used_none m is_bad e = runs_stop m 5
 
--- s grains from x on, in use or none, end before the arena's end
-pub used_inside : (a : List ℕ) (x s : ℕ) → x < grains 8 a → s ≡ used_of (word_of (size_at 8 a x)) → x + s < grains 8 a
-used_inside a x s h e = go (word_of (size_at 8 a x)) e (size_inside 8 a x)
-  where
-    go : (w : Word) → s ≡ used_of w → Inside (grains 8 a) x w → x + s < grains 8 a
-    go (is_free u) e i = omega arith
-    go (is_used u) e i = omega (arith, i.1)
-    go is_last e i = omega arith
-    go is_bad e i = omega arith
+-- a used block of s grains at x has a grain of the arena behind it
+pub used_inside : (a : List ℕ) (x s : ℕ) → Some s ≡ used_of (word_of (size_at 8 a x)) → (1 ≤ s) × (x + s < grains 8 a)
+used_inside a x s e =
+    let i = subst (Inside (grains 8 a) x) (used_some (word_of (size_at 8 a x)) s (sym e)) (size_inside 8 a x) in
+    (i.0, omega (arith, i.1))
 
 module _ (a l v t : List ℕ) (q : ℕ) where
   -- no payload is live there
@@ -127,30 +117,29 @@ module _ (a l v t : List ℕ) (q : ℕ) where
         let m = held a l v t in
         reads m Live q _ (memory_live 8 (lent a l v t) q ∙ sym e) ∙ goes m (unless_eq 3 b 1) _ (gives_eq m 3 b 1 o)
 
-    module _ (x n : ℕ) (k : shown_grain (grains 8 a) x ≡ run (held a l v t) (block_of q)) (c : n ≡ grains 8 a) where
-      -- its block is not to be found
-      pub owner_lost : n ≤ x → no 5 ≡ run (held a l v t) (see_owner q)
-      owner_lost h = sym (owner_live ∙ halts (held a l v t) (block_of q) _ (sym k ∙ shown_out (grains 8 a) x (omega arith)))
+    -- its block is not to be found
+    pub owner_lost : (r : ℕ) → no r ≡ run (held a l v t) (block_of q) → no r ≡ run (held a l v t) (see_owner q)
+    owner_lost r k = sym (owner_live ∙ halts (held a l v t) (block_of q) _ (sym k))
 
-      module _ (h : x < n) (s : ℕ) (u : s ≡ used_of (word_of (size_at 8 a x))) where
-        -- the size word is read
-        owner_there : run (held a l v t) (see_owner q) ≡ run (held a l v t) (as_used (word_of (size_at 8 a x)) >>= owner_of q x)
-        owner_there =
-            let m = held a l v t in
-            owner_live ∙ goes m (block_of q) _ (sym k ∙ shown_in (grains 8 a) x (omega arith)) ∙ reads m Size x _ (memory_size 8 (lent a l v t) x)
+    module _ (x : ℕ) (k : run (held a l v t) (block_of q) ≡ ok x) where
+      -- the size word is read
+      owner_there : run (held a l v t) (see_owner q) ≡ run (held a l v t) (as_used (word_of (size_at 8 a x)) >>= owner_of q x)
+      owner_there =
+          let m = held a l v t in
+          owner_live ∙ goes m (block_of q) _ k ∙ reads m Size x _ (memory_size 8 (lent a l v t) x)
 
-        -- no used block is there
-        pub owner_none : s ≡ 0 → no 5 ≡ run (held a l v t) (see_owner q)
-        owner_none z =
-            let m = held a l v t in
-            sym (owner_there ∙ halts m (as_used (word_of (size_at 8 a x))) _ (used_none m (grains 8 a) x (word_of (size_at 8 a x)) (size_inside 8 a x) (sym u ∙ z)))
+      -- no used block is there
+      pub owner_none : None ≡ used_of (word_of (size_at 8 a x)) → no 5 ≡ run (held a l v t) (see_owner q)
+      owner_none u =
+          let m = held a l v t in
+          sym (owner_there ∙ halts m (as_used (word_of (size_at 8 a x))) _ (used_none m (word_of (size_at 8 a x)) u))
 
-        -- one of s grains is
-        pub owner_known : (s ≡ 0 → ⊥) → run (held a l v t) (see_owner q) ≡ run (held a l v t) (owner_of q x s)
-        owner_known z =
-            let m = held a l v t in
-            let w : word_of (size_at 8 a x) ≡ is_used s = used_some (word_of (size_at 8 a x)) (λ p. z (u ∙ p)) ∙ ap is_used (sym u) in
-            owner_there ∙ goes m (as_used (word_of (size_at 8 a x))) _ (ap (λ (w : Word). run m (as_used w)) w ∙ gives_done m s)
+      -- one of s grains is
+      pub owner_known : (s : ℕ) → Some s ≡ used_of (word_of (size_at 8 a x)) → run (held a l v t) (see_owner q) ≡ run (held a l v t) (owner_of q x s)
+      owner_known s u =
+          let m = held a l v t in
+          let w : word_of (size_at 8 a x) ≡ is_used s = used_some (word_of (size_at 8 a x)) s (sym u) in
+          owner_there ∙ goes m (as_used (word_of (size_at 8 a x))) _ (ap (λ (w : Word). run m (as_used w)) w ∙ gives_done m s)
 
 module _ (a l v t : List ℕ) (q x s : ℕ) where
   -- the payload is behind its end

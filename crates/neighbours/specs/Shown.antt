@@ -1,90 +1,70 @@
 -- The code's answers as the scripts give them, and the slices that were lent as the scripts read them.
-use Rattle.std.specs.Prelude.{ℕ, zero, suc, ◌+◌, ◌-◌, ◌*◌, ◌≤◌, ◌<◌, ◌≡◌, refl, Bool, true, List, length}
-use Rattle.std.proofs.Common.{arith, ap, sym, ◌∙◌, subst, ⊎_elim}
-use Rattle.choice.specs.Choice.{if_le, le?}
+use Rattle.std.specs.Prelude.{ℕ, ◌+◌, ◌-◌, ◌*◌, ◌≤◌, ◌<◌, ◌≡◌, List, length, Option, Some, None, IfSome, Result, IfOk}
+use Rattle.std.proofs.Common.{arith, ap, sym, ◌∙◌, ⊎_elim}
+use Rattle.choice.specs.Choice.{le?}
 use Rattle.class.specs.Class.{list_of}
 use Rattle.word.specs.Word.{word_at}
 use Rattle.script.specs.Memory.{Before}
-use Rattle.script.specs.Script.{Script, Result, ok, no, run}
-use Rattle.sound.specs.Checks.{Entry, Owner, Beside, nobody, somebody, block_of, see_owner, see_behind, see_before}
+use Rattle.script.specs.Script.{Script, run}
+use Rattle.refusal.specs.Answered.{answered, answered_as}
+use Rattle.refusal.specs.declared.Refusal.{Refusal}
+use Rattle.sound.specs.Checks.{Owner, Beside, nobody, somebody, block_of, see_owner, see_behind, see_before}
 use Rattle.slices.specs.Decode.{grains, wrong_link}
 use Rattle.slices.specs.Arena.{link_at}
 use Rattle.slices.proofs.Arena.{link_in}
 use Rattle.slices.proofs.Slices.{memory_before}
 use Rattle.header.specs.Turned.{turned}
-use Rattle.free_list.specs.Lent.{lent, held, classes, no_link, link, Holds, link_grain, link_past}
-use Rattle.free_list.specs.Answers.{answer, unless}
+use Rattle.free_list.specs.Lent.{lent, held, classes, link, Holds, link_grain, link_past}
 use Rattle.neighbours.specs.declared.Owner.{Owner as OwnerAnswer}
-use Rattle.neighbours.specs.declared.Beside.{Beside as BesideAnswer}
+use Rattle.neighbours.specs.declared.Neighbour.{Neighbour}
 
 -- ---- the owner of a payload
 
--- a refusal, with no block
-abbrev pub refusal : ℕ → OwnerAnswer
-refusal r = record { refusal = r; at = 0; grains = 0 }
-
--- the block, or the refusal
-abbrev pub shown_owner : OwnerAnswer → Result Owner
-shown_owner r = unless r.refusal (record { at = r.at; grains = r.grains })
-
--- a grain of an arena of n; from there on the records contradict each other
-abbrev pub shown_grain : ℕ → ℕ → Result ℕ
-shown_grain n x = if_le (suc x) n (ok x) (no 5)
+-- the block, as the script has it
+abbrev pub owned : OwnerAnswer → Owner
+owned o = record { at = o.at; grains = o.grains }
 
 -- the answers on the payload at q are the scripts', whatever the other slices hold
-abbrev pub SeenOwner : List ℕ → List ℕ → ℕ → OwnerAnswer → Type 0
-SeenOwner a v q r = (l t : List ℕ) → shown_owner r ≡ run (held a l v t) (see_owner q)
+abbrev pub SeenOwner : List ℕ → List ℕ → ℕ → Result OwnerAnswer Refusal → Type 0
+SeenOwner a v q r = (l t : List ℕ) → answered_as owned r ≡ run (held a l v t) (see_owner q)
 
-abbrev pub SeenBlock : List ℕ → ℕ → ℕ → Type 0
-SeenBlock a q r = (l v t : List ℕ) → shown_grain (grains 8 a) r ≡ run (held a l v t) (block_of q)
+-- and the grain is one of the arena
+pub record SeenBlock (a : List ℕ) (q : ℕ) (r : Result ℕ Refusal) : Type 0 where
+  pub answer : (l v t : List ℕ) → answered r ≡ run (held a l v t) (block_of q)
+  pub inside : IfOk r (λ x. x < grains 8 a)
 
 -- ---- a block beside a used one
 
--- nobody has no grains
-abbrev pub someone : ℕ → Entry → Beside
-someone zero e = nobody
-someone (suc t) e = somebody (suc t) e
+-- the block with what its links say
+abbrev pub linked : List ℕ → Neighbour → Beside
+linked a e = somebody e.grains (record { next = link a e.next; prev = link a e.prev })
 
--- the answer with no block
-abbrev pub alone : Bool → BesideAnswer
-alone b = record { ok = b; grains = 0; list = 0; next = no_link; prev = no_link }
+-- or nobody
+abbrev pub seen_of : List ℕ → Option Neighbour → Beside
+seen_of a None = nobody
+seen_of a (Some e) = linked a e
 
--- the block with what its links say, or nobody; or refusal 5
-abbrev pub shown_beside : List ℕ → BesideAnswer → Result Beside
-shown_beside a r = answer r.ok (someone r.grains (record { next = link a r.next; prev = link a r.prev }))
+-- its grains; nobody has none
+abbrev pub grains_of : Option Neighbour → ℕ
+grains_of None = 0
+grains_of (Some e) = e.grains
 
--- k is the list of a block of g grains, if it is there
-abbrev pub Listed : ℕ → ℕ → Type 0
-Listed g k = (g ≡ 0 → ⊥) → k ≡ list_of g
+-- a block that was seen at y: its list is that of its size, and its links are the words of y
+pub record Block (a : List ℕ) (y : ℕ) (e : Neighbour) : Type 0 where
+  pub list : e.list ≡ list_of e.grains
+  pub links : Holds a y e.next e.prev
 
--- the answer is that of the script S, whatever the other slices hold; a block that was seen is at y, its list is that of its
--- size, and its links are the words of y
-pub record SeenBeside (a l : List ℕ) (S : Script Beside) (y : ℕ) (r : BesideAnswer) : Type 0 where
-  pub answer : (v t : List ℕ) → shown_beside a r ≡ run (held a l v t) S
-  pub list : Listed r.grains r.list
-  pub links : (r.grains ≡ 0 → ⊥) → Holds a y r.next r.prev
+-- the answer is that of the script S, whatever the other slices hold; of a block that was seen P holds
+pub record SeenBeside (a l : List ℕ) (S : Script Beside) (P : Neighbour → Type 0) (r : Result (Option Neighbour) Refusal) : Type 0 where
+  pub answer : (v t : List ℕ) → answered_as (seen_of a) r ≡ run (held a l v t) S
+  pub block : IfOk r (λ o. IfSome o P)
 
 -- on what is behind, at y, and on what is before x
-abbrev pub SeenBehind : List ℕ → List ℕ → ℕ → BesideAnswer → Type 0
-SeenBehind a l y r = SeenBeside a l (see_behind (grains 8 a) classes y) y r
+abbrev pub SeenBehind : List ℕ → List ℕ → ℕ → Result (Option Neighbour) Refusal → Type 0
+SeenBehind a l y r = SeenBeside a l (see_behind (grains 8 a) classes y) (Block a y) r
 
-abbrev pub SeenBefore : List ℕ → List ℕ → ℕ → BesideAnswer → Type 0
-SeenBefore a l x r = SeenBeside a l (see_before (grains 8 a) classes x) (x - r.grains) r
-
--- nobody was seen
-pub seen_nobody : (a l : List ℕ) (S : Script Beside) (y : ℕ) (b : Bool) (r : BesideAnswer) → r ≡ alone b → ((v t : List ℕ) → shown_beside a (alone b) ≡ run (held a l v t) S) → SeenBeside a l S y r
-seen_nobody a l S y b r e h = subst (SeenBeside a l S y) (sym e) (record { answer = h; list = λ n. absurd (n refl); links = λ n. absurd (n refl) })
-
--- a block of no grains was seen, so nobody was
-pub seen_as_nobody : (a l : List ℕ) (S : Script Beside) (y z : ℕ) (f r : BesideAnswer) → SeenBeside a l S y f → f.ok ≡ true → f.grains ≡ 0 → r ≡ alone true → SeenBeside a l S z r
-seen_as_nobody a l S y z f r h o g e = seen_nobody a l S z true r e (λ v t. sym (
-    ap (λ (b : Bool). answer b (someone f.grains (record { next = link a f.next; prev = link a f.prev }))) o
-    ∙ ap (λ (n : ℕ). answer true (someone n (record { next = link a f.next; prev = link a f.prev }))) g) ∙ h.answer v t)
-
--- a block has grains
-pub someone_is : (t : ℕ) (e : Entry) → 1 ≤ t → someone t e ≡ somebody t e
-someone_is zero e h = absurd (omega arith)
-someone_is (suc t) e h = refl
+abbrev pub SeenBefore : List ℕ → List ℕ → ℕ → Result (Option Neighbour) Refusal → Type 0
+SeenBefore a l x r = SeenBeside a l (see_before (grains 8 a) classes x) (λ e. Block a (x - e.grains) e) r
 
 -- ---- what is read
 

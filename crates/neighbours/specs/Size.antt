@@ -1,6 +1,6 @@
 -- A size word compared with the bytes of t grains: equal, it says a free block of t grains; one more, a used one; and no
 -- other word says either.
-use Rattle.std.specs.Prelude.{ℕ, ◌+◌, ◌-◌, ◌*◌, ◌/◌, ◌%◌, ◌≤◌, ◌<◌, ◌≡◌, refl, List, length}
+use Rattle.std.specs.Prelude.{ℕ, ◌+◌, ◌-◌, ◌*◌, ◌/◌, ◌%◌, ◌≤◌, ◌<◌, ◌≡◌, List, length, Some}
 use Rattle.std.proofs.Common.{arith, ap, sym, ◌∙◌, subst}
 use Rattle.choice.specs.Choice.{eq_case, le_case}
 use Rattle.word.specs.Word.{word_at}
@@ -9,7 +9,7 @@ use Rattle.sound.proofs.Seen.{word_free, word_used, word_last}
 use Rattle.slices.specs.Decode.{grains, size_of, wrong_size}
 use Rattle.slices.specs.Arena.{size_at}
 use Rattle.header.specs.Turned.{turned, turned_is, grains_few}
-use Rattle.header.specs.Told.{used_of, told_free, told_used, size_word}
+use Rattle.header.specs.Told.{free_of, used_of, told_free, told_used, size_word}
 
 -- ---- what a word says, and how it is spelled
 
@@ -38,12 +38,18 @@ spelled n g v =
     In : ℕ → Type 0
     In x = Spelled v (word_of x)
 
--- the word of a used block
-pub used_some : (w : Word) → (used_of w ≡ 0 → ⊥) → w ≡ is_used (used_of w)
-used_some (is_free s) h = absurd (h refl)
-used_some (is_used s) h = refl
-used_some is_last h = absurd (h refl)
-used_some is_bad h = absurd (h refl)
+-- the word of a free block, and of a used one
+pub free_some : (w : Word) (s : ℕ) → free_of w ≡ Some s → w ≡ is_free s
+free_some (is_free u) s e = let z : u ≡ s = cc in ap is_free z
+free_some (is_used u) s e = cc
+free_some is_last s e = cc
+free_some is_bad s e = cc
+
+pub used_some : (w : Word) (s : ℕ) → used_of w ≡ Some s → w ≡ is_used s
+used_some (is_free u) s e = cc
+used_some (is_used u) s e = let z : u ≡ s = cc in ap is_used z
+used_some is_last s e = cc
+used_some is_bad s e = cc
 
 -- ---- in an arena
 
@@ -61,6 +67,5 @@ module _ (a : List ℕ) (g t v : ℕ) (s : length a < 18446744073709551616) (p :
   used_word_lem h =
       let k : v - 1 ≡ 32 * t = omega arith in
       let d : turned (v - 1) ≡ t = ap turned k ∙ turned_is t in
-      let u : used_of (word_of (size_at 8 a g)) ≡ t =
-      ap (λ (x : ℕ). used_of (word_of x)) (size_word a g v (omega arith) e) ∙ told_used (grains 8 a) g v (omega arith) (grains_few a s) (omega arith) (omega arith) ∙ d in
-      used_some (word_of (size_at 8 a g)) (λ q. omega arith) ∙ ap is_used u
+      used_some (word_of (size_at 8 a g)) t
+      (ap (λ (x : ℕ). used_of (word_of x)) (size_word a g v (omega arith) e) ∙ told_used (grains 8 a) g v (omega arith) (grains_few a s) (omega arith) (omega arith) ∙ ap Some d)

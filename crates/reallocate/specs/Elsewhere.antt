@@ -1,5 +1,5 @@
 -- The last step of a resize: another block is taken, and the old one is left.
-use Rattle.std.specs.Prelude.{ℕ, ◌+◌, ◌*◌, ◌%◌, ◌^◌, ◌≤◌, ◌<◌, ◌≡◌, refl, List, [], ◌++◌, length}
+use Rattle.std.specs.Prelude.{ℕ, ◌+◌, ◌*◌, ◌%◌, ◌^◌, ◌≤◌, ◌<◌, ◌≡◌, refl, List, [], ◌++◌, length, Ok, Err, ⊤}
 use Rattle.std.proofs.Common.{arith, ap, sym, ◌∙◌, subst, inl, inr, ⊎_elim}
 use Rattle.align.specs.Align.{Power}
 use Rattle.align.proofs.Align.{power_pos}
@@ -22,7 +22,8 @@ use Rattle.carry.proofs.Carry.{carried_parts}
 use Rattle.tables.specs.Length.{LongEnough, long_ample}
 use Rattle.request.specs.Alignment.{power_beside}
 use Rattle.free_list.specs.Lent.{lent, held, classes, Long}
-use Rattle.free_list.specs.Answers.{unless_no, unless_ok}
+use Rattle.refusal.specs.Number.{number}
+use Rattle.refusal.specs.declared.Refusal.{Refusal}
 use Rattle.free_list.specs.Written.{WrittenLive}
 use Rattle.allocate.specs.declared.Plan.{Plan as TakePlan}
 use Rattle.allocate.specs.Plan.{Plans, Bounded, made_by}
@@ -30,8 +31,8 @@ use Rattle.occupy.specs.Taken.{Ready, plan_ready}
 use Rattle.undo.specs.declared.Saved.{Saved}
 use Rattle.undo.specs.Saved.{Inside, SavedTake}
 use Rattle.undo.specs.Undone.{Restored}
-use Rattle.reallocate.specs.Does.{Does, refused, granted, heard, heard_no, GoesElsewhere}
-use Rattle.reallocate.specs.Left.{returning, Leaves, stays, goes as goes_off}
+use Rattle.reallocate.specs.Does.{Does, refused, granted, GoesElsewhere}
+use Rattle.reallocate.specs.Left.{returning, Leaves}
 
 -- a power of two is an alignment
 power_align : (n : ℕ) → Power n → Align n
@@ -39,7 +40,7 @@ power_align n h = ⊎_elim (λ (e : n < 2 ^ 1). inl (omega (arith, power_pos n h
 
 -- the slices have room for what is planned, and so for leaving the old block
 pub taken_ready : (a l v : List ℕ) (r : TakePlan) → LongEnough (length a) (length l) (length v) → Bounded a l r
-    → Ready a l v r.list r.next r.at r.grains r.keep r.rest_list r.head r.place
+    → Ready a l v r
 unfolding grains
 taken_ready a l v r e b = plan_ready a l v r b (omega (arith, e.bits, b.pad))
 
@@ -54,77 +55,76 @@ leave_ready a l v b m o q u p z k w e i j y x f g =
     let lo : length o ≡ length v = ap length (g.live []) ∙ d.live in
     (f, omega (arith, lm, e.heads), omega (arith, lo, e.bits), omega (arith, lb), omega (arith, lb), omega (arith, lb))
 
-module _ (a l v : List ℕ) (q u p n : ℕ) (r : TakePlan) (s : Plans a l p n r) where
-  -- nothing can be taken
-  pub elsewhere_refused : (x : ℕ) → (r.refusal ≡ 0 → ⊥) → GoesElsewhere a l v q u p n (heard r.refusal x) a l v
+-- nothing can be taken
+pub elsewhere_refused : (a l v : List ℕ) (q u p n : ℕ) (r : Refusal) → Plans a l p n (Err r) → GoesElsewhere a l v q u p n (not (number r)) a l v
+unfolding elsewhere_script
+elsewhere_refused a l v q u p n r s t = refused (number r) (halts (held a l v t) (take_script (grains 8 a) classes p n) _ (sym (s.answers v t)))
+
+module _ (a l v : List ℕ) (q u p n : ℕ) (r : TakePlan) (s : Plans a l p n (Ok r)) where
+  -- what the take writes, and where the payload is then
+  abbrev first : List Write
+  first = (made_by a r).writes
+
+  abbrev there : ℕ
+  there = 2 * r.at + r.place
+
+  taken : (t : List ℕ) → run (held a l v t) (take_script (grains 8 a) classes p n) ≡ ok (made_by a r)
+  taken t = sym (s.answers v t)
+
+  -- there is room for all that was asked for
+  pub taken_room : Power n → there + p ≤ 2 * grains 8 a
+  taken_room h = (take_answer (grains 8 a) classes p n (held a l v []) (made_by a r) (decoded_slices 8 (lent a l v [])) (power_align n h) (taken [])).1
+
+  -- the whole plan, with what the return writes
+  abbrev whole : List Write → Plan
+  whole w = record { answer = there; writes = first ++ w; moved = u; early = length first }
+
+  goes_on : (t : List ℕ) → run (held a l v t) (elsewhere_script (grains 8 a) classes q p n u)
+      ≡ run (held a l v t) (over first (give_back_script (grains 8 a) classes q) >>= λ b. done (whole b.writes))
   unfolding elsewhere_script
-  elsewhere_refused x e t = rw (heard_no r.refusal x e)
-      (refused r.refusal (halts (held a l v t) (take_script (grains 8 a) classes p n) _ (sym (s.answers v t) ∙ unless_no r.refusal (made_by a r) e)))
+  goes_on t = goes (held a l v t) (take_script (grains 8 a) classes p n) _ (taken t)
 
-  module _ (z : r.refusal ≡ 0) where
-    -- what the take writes, and where the payload is then
-    abbrev first : List Write
-    first = (made_by a r).writes
+  module _ (f : length a < 2 ^ 64) (g : LongEnough (length a) (length l) (length v)) (h : Power n) (b m o : List ℕ) (w : WrittenLive a l v first b m o) where
+    -- all writes of the take can be stored
+    storable : (t : List ℕ) → AllValid 8 (lent a l v t) first
+    storable t =
+        let S = lent a l v t in
+        all_valid 8 classes S (long_ample S g) first (take_writable (grains 8 a) classes p n (held a l v t) (made_by a r) (decoded_slices 8 S) (power_align n h) (taken t))
 
-    abbrev there : ℕ
-    there = 2 * r.at + r.place
+    -- the return is checked on the slices as the take leaves them
+    return_after : (t : List ℕ) → run (held a l v t) (over first (give_back_script (grains 8 a) classes q)) ≡ run (held b m o t) (give_back_script (grains 8 b) classes q)
+    return_after t =
+        let S = lent a l v t in
+        let c = give_back_script (grains 8 a) classes q in
+        let e : length b ≡ length a = ap length (w.arena []) ∙ (stores_lengths 8 (lent a l v []) first).arena in
+        over_run (held a l v t) first c 24 (back_reads (grains 8 a) classes q)
+        ∙ ap (λ (x : Memory). run x c) (sym (stores_memory 8 S first (wide_8 a f) (storable t)))
+        ∙ ap (λ (T : Slices). run (memory_of 8 T) c) (sym (w.slices t))
+        ∙ ap (λ (i : ℕ). run (held b m o t) (give_back_script i classes q)) (sym (grains_keep 8 a b e))
 
-    taken : (t : List ℕ) → run (held a l v t) (take_script (grains 8 a) classes p n) ≡ ok (made_by a r)
-    taken t = sym (s.answers v t) ∙ unless_ok r.refusal (made_by a r) z
+    module _ (k : Saved) (c d e : List ℕ) where
+      -- the return is refused, and the take was undone
+      back_again : (i : ℕ) → Restored a l v c d e → ((t : List ℕ) → run (held b m o t) (give_back_script (grains 8 b) classes q) ≡ no i)
+          → GoesElsewhere a l v q u p n (not i) c d e
+      back_again i y j t = subst (Does (lent a l v t) q (run (held a l v t) (elsewhere_script (grains 8 a) classes q p n u)) (not i)) (sym (same t y))
+          (refused i (goes_on t ∙ halts (held a l v t) (over first (give_back_script (grains 8 a) classes q)) _ (return_after t ∙ j t)))
+        where
+          same : (t : List ℕ) → Restored a l v c d e → lent c d e t ≡ lent a l v t
+          same t y = rw (y.arena, y.lists, y.live)
 
-    -- there is room for all that was asked for
-    pub taken_room : Power n → there + p ≤ 2 * grains 8 a
-    taken_room h = (take_answer (grains 8 a) classes p n (held a l v []) (made_by a r) (decoded_slices 8 (lent a l v [])) (power_align n h) (taken [])).1
-
-    -- the whole plan, with what the return writes
-    abbrev whole : List Write → Plan
-    whole w = record { answer = there; writes = first ++ w; moved = u; early = length first }
-
-    goes_on : (t : List ℕ) → run (held a l v t) (elsewhere_script (grains 8 a) classes q p n u)
-        ≡ run (held a l v t) (over first (give_back_script (grains 8 a) classes q) >>= λ b. done (whole b.writes))
-    unfolding elsewhere_script
-    goes_on t = goes (held a l v t) (take_script (grains 8 a) classes p n) _ (taken t)
-
-    module _ (f : length a < 2 ^ 64) (g : LongEnough (length a) (length l) (length v)) (h : Power n) (b m o : List ℕ) (w : WrittenLive a l v first b m o) where
-      -- all writes of the take can be stored
-      storable : (t : List ℕ) → AllValid 8 (lent a l v t) first
-      storable t =
+      -- it is written, after the payload was carried
+      moved_off : (x : List Write) → ((t : List ℕ) → run (held b m o t) (give_back_script (grains 8 b) classes q) ≡ ok (returning x))
+          → ((t : List ℕ) → lent c d e t ≡ stores 8 (shifted (lent b m o t) q there u) x) → GoesElsewhere a l v q u p n (yes there) c d e
+      moved_off x i j t =
           let S = lent a l v t in
-          all_valid 8 classes S (long_ample S g) first (take_writable (grains 8 a) classes p n (held a l v t) (made_by a r) (decoded_slices 8 S) (power_align n h) (taken t))
+          subst (Does S q (run (held a l v t) (elsewhere_script (grains 8 a) classes q p n u)) (yes there))
+          (carried_parts S q (whole x) first x refl refl ∙ ap (λ (T : Slices). stores 8 (shifted T q there u) x) (sym (w.slices t)) ∙ sym (j t))
+          (granted (whole x) (goes_on t ∙ goes (held a l v t) (over first (give_back_script (grains 8 a) classes q)) _ (return_after t ∙ i t) ∙ gives_done (held a l v t) (whole x)))
 
-      -- the return is checked on the slices as the take leaves them
-      return_after : (t : List ℕ) → run (held a l v t) (over first (give_back_script (grains 8 a) classes q)) ≡ run (held b m o t) (give_back_script (grains 8 b) classes q)
-      return_after t =
-          let S = lent a l v t in
-          let c = give_back_script (grains 8 a) classes q in
-          let e : length b ≡ length a = ap length (w.arena []) ∙ (stores_lengths 8 (lent a l v []) first).arena in
-          over_run (held a l v t) first c 24 (back_reads (grains 8 a) classes q)
-          ∙ ap (λ (x : Memory). run x c) (sym (stores_memory 8 S first (wide_8 a f) (storable t)))
-          ∙ ap (λ (T : Slices). run (memory_of 8 T) c) (sym (w.slices t))
-          ∙ ap (λ (i : ℕ). run (held b m o t) (give_back_script i classes q)) (sym (grains_keep 8 a b e))
+      -- as the old block was left
+      module _ (x : Ready a l v r) (y : SavedTake a l v r k) where
+        pub elsewhere_back : (i : Refusal) → Leaves b m o q there u k (Err i) c d e → GoesElsewhere a l v q u p n (not (number i)) c d e
+        elsewhere_back i j t = back_again (number i) (j.1 a l v r x y w) j.0 t
 
-      module _ (k : Saved) (c d e : List ℕ) where
-        -- the return is refused, and the take was undone
-        back_again : (i : ℕ) → Restored a l v c d e → ((t : List ℕ) → run (held b m o t) (give_back_script (grains 8 b) classes q) ≡ no i)
-            → GoesElsewhere a l v q u p n (not i) c d e
-        back_again i y j t = subst (Does (lent a l v t) q (run (held a l v t) (elsewhere_script (grains 8 a) classes q p n u)) (not i)) (sym (same t y))
-            (refused i (goes_on t ∙ halts (held a l v t) (over first (give_back_script (grains 8 a) classes q)) _ (return_after t ∙ j t)))
-          where
-            same : (t : List ℕ) → Restored a l v c d e → lent c d e t ≡ lent a l v t
-            same t y = rw (y.arena, y.lists, y.live)
-
-        -- it is written, after the payload was carried
-        moved_off : (x : List Write) → ((t : List ℕ) → run (held b m o t) (give_back_script (grains 8 b) classes q) ≡ ok (returning x))
-            → ((t : List ℕ) → lent c d e t ≡ stores 8 (shifted (lent b m o t) q there u) x) → GoesElsewhere a l v q u p n (yes there) c d e
-        moved_off x i j t =
-            let S = lent a l v t in
-            subst (Does S q (run (held a l v t) (elsewhere_script (grains 8 a) classes q p n u)) (yes there))
-            (carried_parts S q (whole x) first x refl refl ∙ ap (λ (T : Slices). stores 8 (shifted T q there u) x) (sym (w.slices t)) ∙ sym (j t))
-            (granted (whole x) (goes_on t ∙ goes (held a l v t) (over first (give_back_script (grains 8 a) classes q)) _ (return_after t ∙ i t) ∙ gives_done (held a l v t) (whole x)))
-
-        -- either, as the old block was left
-        pub elsewhere_left : (i : ℕ) → Ready a l v r.list r.next r.at r.grains r.keep r.rest_list r.head r.place
-            → SavedTake a l v r.list r.next r.at r.grains r.keep r.rest_list r.head r.place k
-            → Leaves b m o q there u k i c d e → GoesElsewhere a l v q u p n (heard i there) c d e
-        elsewhere_left i x y (stays ne j g) t = rw (heard_no i there ne) (back_again i (g a l v _ _ _ _ _ _ _ _ x y w) j t)
-        elsewhere_left i x y (goes_off e0 x0 j g) t = rw e0 (moved_off x0 j g t)
+        pub elsewhere_left : {i : ⊤} → Leaves b m o q there u k (Ok i) c d e → GoesElsewhere a l v q u p n (yes there) c d e
+        elsewhere_left j t = moved_off j.0 j.1 j.2 t

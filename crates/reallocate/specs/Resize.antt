@@ -1,28 +1,32 @@
 -- The whole resize: the block of the payload, then in place, where it can be, and else the payload moves.
-use Rattle.std.specs.Prelude.{ℕ, ◌+◌, ◌-◌, ◌*◌, ◌^◌, ◌≤◌, ◌<◌, ◌≡◌, refl, List, [], length}
+use Rattle.std.specs.Prelude.{ℕ, ◌+◌, ◌-◌, ◌*◌, ◌^◌, ◌≤◌, ◌<◌, ◌≡◌, refl, List, [], length, Option, Result, Ok, Err}
 use Rattle.std.proofs.Common.{arith, sym, ◌∙◌, subst}
 use Rattle.definition.specs.Calls.{keeps}
-use Rattle.script.specs.Memory.{Memory}
-use Rattle.script.specs.Script.{Script, Result, run}
+use Rattle.script.specs.Script.{Script, run}
+use Rattle.script.specs.Script.{Result as Answer}
 use Rattle.script.proofs.Script.{goes, halts}
-use Rattle.sound.specs.Checks.{Owner, see_owner}
+use Rattle.sound.specs.Checks.{see_owner}
 use Rattle.sound.proofs.Checked.{owner_checked}
 use Rattle.sound.proofs.WritableResize.{after_start}
 use Rattle.sound.specs.Plans.{Plan, grow_script, resize_script}
-use Rattle.sound.specs.Runs.{Reply, yes}
+use Rattle.sound.specs.Runs.{Reply, yes, not}
 use Rattle.slices.specs.Decode.{grains}
 use Rattle.header.specs.Turned.{grains_few}
 use Rattle.carry.proofs.Carry.{carried_still}
 use Rattle.tables.specs.Length.{LongEnough}
 use Rattle.free_list.specs.Lent.{lent, held, classes}
-use Rattle.free_list.specs.Answers.{unless_no, unless_ok}
+use Rattle.refusal.specs.Number.{number}
+use Rattle.refusal.specs.declared.Refusal.{Refusal}
 use Rattle.free_list.specs.Written.{Written}
 use Rattle.neighbours.specs.declared.Owner.{Owner as OwnerAnswer}
-use Rattle.neighbours.specs.Shown.{SeenOwner}
+use Rattle.neighbours.specs.declared.Neighbour.{Neighbour}
+use Rattle.neighbours.specs.Shown.{owned, SeenOwner}
 use Rattle.neighbours.specs.Within.{owner_within}
 use Rattle.stretch.specs.declared.Plan.{Plan as StretchPlan}
-use Rattle.stretch.specs.Shown.{stays, stretch_writes, Planned, stretch_refused, stretch_same, stretch_fitted, stretch_short}
-use Rattle.reallocate.specs.Does.{Does, refused, granted, heard, heard_no, Moves, Resizes}
+use Rattle.stretch.specs.declared.Plan.TheVariants.{Same, Fitted, Short}
+use Rattle.stretch.specs.declared.Fit.{Fit}
+use Rattle.stretch.specs.Shown.{stays, stretch_writes, shown, Planned}
+use Rattle.reallocate.specs.Does.{Does, refused, granted, Moves, Resizes}
 
 -- ---- the block
 
@@ -37,12 +41,11 @@ pub record Seated (a : List ℕ) (q x s : ℕ) : Type 0 where
   pub starts : 2 * x < q
   pub ends : q ≤ 2 * (x + s)
 
-pub owner_holds : (a v : List ℕ) (q : ℕ) (o : OwnerAnswer) → SeenOwner a v q o → o.refusal ≡ 0 → Seated a q o.at o.grains
-owner_holds a v q o h e =
-    let b : Owner = record { at = o.at; grains = o.grains } in
-    let c = owner_checked (held a [] v []) q b (sym (h [] []) ∙ unless_ok o.refusal b e) in
+pub owner_holds : (a v : List ℕ) (q : ℕ) (o : OwnerAnswer) → SeenOwner a v q (Ok o) → Seated a q o.at o.grains
+owner_holds a v q o h =
+    let c = owner_checked (held a [] v []) q (owned o) (sym (h [] [])) in
     record {
-      inside = (owner_within a [] v [] q o (h [] []) e).1;
+      inside = (owner_within a v q o h).1;
       starts = omega (arith, after_start (held a [] v []) q o.at c.found);
       ends = c.inside;
     }
@@ -58,44 +61,45 @@ module _ (a : List ℕ) (q x s : ℕ) (h : Seated a q x s) where
 
 -- ---- the call
 
-module _ (a l v : List ℕ) (q p n : ℕ) (o : OwnerAnswer) (h : SeenOwner a v q o) where
+module _ (a l v : List ℕ) (q p n : ℕ) where
   -- no live payload is there, or its block is damaged
-  pub resize_unowned : (z : ℕ) → (o.refusal ≡ 0 → ⊥) → Resizes a l v q p n (heard o.refusal z) a l v
+  pub resize_unowned : (r : Refusal) → SeenOwner a v q (Err r) → Resizes a l v q p n (not (number r)) a l v
   unfolding resize_script
-  resize_unowned z e t = rw (heard_no o.refusal z e)
-      (refused o.refusal (halts (held a l v t) (see_owner q) _ (sym (h l t) ∙ unless_no o.refusal (record { at = o.at; grains = o.grains }) e)))
+  resize_unowned r h t = refused (number r) (halts (held a l v t) (see_owner q) _ (sym (h l t)))
 
-  -- the script from the block on
-  abbrev growing : ℕ → ℕ → ℕ → ℕ → Script Plan
-  growing q p n d = grow_script (grains 8 a) classes q p n d o.at o.grains
+  module _ (o : OwnerAnswer) (h : SeenOwner a v q (Ok o)) (m : ℕ) (k : m ≡ keeps (q - 2 * o.at) p) where
+    -- the script from the block on
+    abbrev growing : ℕ → ℕ → ℕ → ℕ → Script Plan
+    growing q p n d = grow_script (grains 8 a) classes q p n d o.at o.grains
 
-  module _ (z : o.refusal ≡ 0) (m : ℕ) (k : m ≡ keeps (q - 2 * o.at) p) (r : StretchPlan) (g : Planned a l growing o.at o.grains m r) where
-    abbrev asked : List ℕ → Result Plan
+    abbrev asked : List ℕ → Answer Plan
     asked t = run (held a l v t) (resize_script (grains 8 a) classes q p n)
 
-    owned : (t : List ℕ) → asked t ≡ run (held a l v t) (growing q p n (q - 2 * o.at))
+    found : (t : List ℕ) → asked t ≡ run (held a l v t) (growing q p n (q - 2 * o.at))
     unfolding resize_script
-    owned t = goes (held a l v t) (see_owner q) _ (sym (h l t) ∙ unless_ok o.refusal (record { at = o.at; grains = o.grains }) z)
+    found t = goes (held a l v t) (see_owner q) _ (sym (h l t))
+
+    -- it says what the stretch's plan shows
+    planned : (r : Result StretchPlan Refusal) → Planned a l growing o.at o.grains m r → (t : List ℕ) → asked t ≡ shown a (held a l v t) q p n o.at o.grains m r
+    planned r g t = found t ∙ sym (g.answers q p n (q - 2 * o.at) (sym k) v t)
 
     -- refused
-    pub resize_refused : (y : ℕ) → (r.refusal ≡ 0 → ⊥) → Resizes a l v q p n (heard r.refusal y) a l v
-    resize_refused y e t = rw (heard_no r.refusal y e)
-        (refused r.refusal (owned t ∙ stretch_refused a l v t growing q p n (q - 2 * o.at) o.at o.grains m r g (sym k) e))
+    pub resize_refused : (r : Refusal) → Planned a l growing o.at o.grains m (Err r) → Resizes a l v q p n (not (number r)) a l v
+    resize_refused r g t = refused (number r) (planned (Err r) g t)
 
-    module _ (e : r.refusal ≡ 0) where
-      -- nothing to do
-      pub resize_same : r.kind ≡ 0 → Resizes a l v q p n (yes q) a l v
-      resize_same i t =
-          subst (Does (lent a l v t) q (asked t) (yes q)) (carried_still (lent a l v t) q (stays q []) refl)
-          (granted (stays q []) (owned t ∙ stretch_same a l v t growing q p n (q - 2 * o.at) o.at o.grains m r g (sym k) e i))
+    -- nothing to do
+    pub resize_same : Planned a l growing o.at o.grains m (Ok Same) → Resizes a l v q p n (yes q) a l v
+    resize_same g t =
+        subst (Does (lent a l v t) q (asked t) (yes q)) (carried_still (lent a l v t) q (stays q []) refl)
+        (granted (stays q []) (planned (Ok Same) g t))
 
-      -- in place
-      pub resize_fitted : (b c : List ℕ) → r.kind ≡ 1 → Written a l (stretch_writes a o.at o.grains m r) b c → Resizes a l v q p n (yes q) b c v
-      resize_fitted b c i w t =
-          let s = stays q (stretch_writes a o.at o.grains m r) in
-          subst (Does (lent a l v t) q (asked t) (yes q)) (carried_still (lent a l v t) q s refl ∙ sym (w.slices v t))
-          (granted s (owned t ∙ stretch_fitted a l v t growing q p n (q - 2 * o.at) o.at o.grains m r g (sym k) e i))
+    -- in place
+    pub resize_fitted : (f : Fit) → Planned a l growing o.at o.grains m (Ok (Fitted f)) → (b c : List ℕ) → Written a l (stretch_writes a o.at o.grains m f) b c → Resizes a l v q p n (yes q) b c v
+    resize_fitted f g b c w t =
+        let s = stays q (stretch_writes a o.at o.grains m f) in
+        subst (Does (lent a l v t) q (asked t) (yes q)) (carried_still (lent a l v t) q s refl ∙ sym (w.slices v t))
+        (granted s (planned (Ok (Fitted f)) g t))
 
-      -- the payload moves
-      pub resize_moved : (b c d : List ℕ) → (r.kind ≡ 0 → ⊥) → (r.kind ≡ 1 → ⊥) → (y : Reply) → Moves a l v q o.at o.grains r.behind p n y b c d → Resizes a l v q p n y b c d
-      resize_moved b c d i j y f t = rw (owned t ∙ stretch_short a l v t growing q p n (q - 2 * o.at) o.at o.grains m r g (sym k) e i j) (f t)
+    -- the payload moves
+    pub resize_moved : (e : Option Neighbour) → Planned a l growing o.at o.grains m (Ok (Short e)) → (b c d : List ℕ) (y : Reply) → Moves a l v q o.at o.grains e p n y b c d → Resizes a l v q p n y b c d
+    resize_moved e g b c d y f t = rw (planned (Ok (Short e)) g t) (f t)

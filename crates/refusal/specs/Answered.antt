@@ -8,3 +8,8 @@ use Rattle.refusal.specs.declared.Refusal.{Refusal}
 abbrev pub answered : {A : Type 0} → Result A Refusal → Answer A
 answered (Ok x) = ok x
 answered (Err r) = no (number r)
+
+-- the same of what was found, as f reads it
+abbrev pub answered_as : {A B : Type 0} → (A → B) → Result A Refusal → Answer B
+answered_as f (Ok x) = ok (f x)
+answered_as f (Err r) = no (number r)

@@ -1,7 +1,7 @@
 -- Whether a region can be given, on any memory that has this table: the answer is the script's refusal, or the script goes
 -- on to lay out the region (`Answered`). The script is taken in two parts: what is asked before the other regions are
 -- looked at, and from there on (`beside`). Each law is one return of the code.
-use Rattle.std.specs.Prelude.{ℕ, zero, suc, ◌+◌, ◌-◌, ◌/◌, ◌≤◌, ◌<◌, ◌≡◌, Bool, true, false, List, [], length}
+use Rattle.std.specs.Prelude.{ℕ, ◌+◌, ◌-◌, ◌/◌, ◌≤◌, ◌<◌, ◌≡◌, Bool, true, false, List, [], length, Result, Ok, Err, ⊤}
 use Rattle.std.proofs.Common.{arith, ap, sym, ◌∙◌}
 use Rattle.choice.specs.Choice.{if_eq, eq_yes, eq_no}
 use Rattle.table.specs.Table.{entry}
@@ -9,10 +9,15 @@ use Rattle.script.specs.Memory.{Memory, Table}
 use Rattle.script.specs.Script.{Script, no, run, done, stop, ◌>>=◌, ◌>>◌, unless_le, must_eq, must_le, Gives}
 use Rattle.script.proofs.Script.{goes, halts, reads, gives_done, gives_eq, gives_le, halts_eq, halts_le, runs_stop}
 use Rattle.sound.specs.Plans.{Plan}
-use Rattle.sound.specs.RegionPlan.{Looked, see_regions, Layout, lay_script, planned, region_script}
+use Rattle.sound.specs.RegionPlan.{see_regions, Layout, lay_script, planned, region_script}
 use Rattle.sound.specs.RegionSound.{nothing_seen}
+use Rattle.refusal.specs.Number.{number}
+use Rattle.refusal.specs.declared.Refusal.{Refusal}
+use Rattle.refusal.specs.declared.Refusal.TheVariants.{Misplaced, Damaged, TooShort}
 use Rattle.region.specs.declared.Findings.{Findings}
-use Rattle.region.specs.Look.{Holds, told, LookedThrough}
+use Rattle.region.specs.declared.Place.{Place}
+use Rattle.region.specs.declared.Place.TheVariants.{Anywhere, Behind}
+use Rattle.region.specs.Look.{Holds, bit, LookedThrough}
 
 -- how many regions the table t can hold
 abbrev pub most_of : List ℕ → ℕ
@@ -36,12 +41,21 @@ beside behind n c g len r = do
   must_eq l.wrong 0
   laying n c g len r
 
+-- what the script hears: 1 where the region must begin where another ended
+abbrev pub asked : Place → ℕ
+asked Anywhere = 0
+asked Behind = 1
+
+-- a region may begin there, if another ends there or doesn't
+abbrev pub Allowed : Place → Bool → Type 0
+Allowed place meets = asked place ≤ bit meets
+
 -- ---- what the code answers
 
 -- refused with r, or the script goes on with s
-abbrev pub Goes : Memory → Script Plan → Script Plan → ℕ → Type 0
-Goes m t s zero = run m t ≡ run m s
-Goes m t s (suc r) = run m t ≡ no (suc r)
+abbrev pub Goes : Memory → Script Plan → Script Plan → Result ⊤ Refusal → Type 0
+Goes m t s (Ok u) = run m t ≡ run m s
+Goes m t s (Err r) = run m t ≡ no (number r)
 
 -- there is room in the table, and the region is inside the arena
 pub record Givable (t : List ℕ) (n g len : ℕ) : Type 0 where
@@ -50,15 +64,15 @@ pub record Givable (t : List ℕ) (n g len : ℕ) : Type 0 where
   pub inside : g + len ≤ n
 
 -- what holds where nothing is refused
-abbrev pub Admitted : List ℕ → ℕ → ℕ → ℕ → ℕ → Type 0
-Admitted t n g len zero = Givable t n g len
-Admitted t n g len (suc r) = Unit {0}
+abbrev pub Admitted : List ℕ → ℕ → ℕ → ℕ → Result ⊤ Refusal → Type 0
+Admitted t n g len (Ok u) = Givable t n g len
+Admitted t n g len (Err r) = Unit {0}
 
-pub record Answered (t : List ℕ) (behind n g len r : ℕ) : Type 0 where
+pub record Answered (t : List ℕ) (behind n g len : ℕ) (r : Result ⊤ Refusal) : Type 0 where
   pub room : Admitted t n g len r
   pub script : (m : Memory) → Holds m t → (c : ℕ) → Goes m (region_script (most_of t) behind n c g len) (laying n c g len (entry t 0)) r
 
-abbrev pub AnsweredBeside : List ℕ → ℕ → ℕ → ℕ → ℕ → ℕ → Type 0
+abbrev pub AnsweredBeside : List ℕ → ℕ → ℕ → ℕ → ℕ → Result ⊤ Refusal → Type 0
 AnsweredBeside t behind n g len r = (m : Memory) → Holds m t → (c : ℕ) → Goes m (beside behind n c g len (entry t 0)) (laying n c g len (entry t 0)) r
 
 -- ---- before the look
@@ -103,66 +117,59 @@ module _ (t : List ℕ) (behind n g len most count : ℕ) (most_is : most ≡ mo
         ∙ goes m (must_le count most) _ (gives_le m 5 count most d)
 
   -- the table is full
-  pub answer_full : count ≡ most → Answered t behind n g len 6
+  pub answer_full : count ≡ most → Answered t behind n g len (Err TooShort)
   answer_full e = record { room = tt; script = λ m h c. rw (← most_is) (full m h c e) }
 
   -- the region is too short
-  pub answer_short : (count ≡ most → ⊥) → len < 2 → Answered t behind n g len 4
+  pub answer_short : (count ≡ most → ⊥) → len < 2 → Answered t behind n g len (Err Misplaced)
   answer_short ne a = record { room = tt; script = λ m h c. rw (← most_is) (short m h c ne a) }
 
   -- it is not inside the arena
-  pub answer_outside : (count ≡ most → ⊥) → 2 ≤ len → n < g + len → Answered t behind n g len 4
+  pub answer_outside : (count ≡ most → ⊥) → 2 ≤ len → n < g + len → Answered t behind n g len (Err Misplaced)
   answer_outside ne a b = record { room = tt; script = λ m h c. rw (← most_is) (outside m h c ne a b) }
 
   -- the table has more regions than it can hold
-  pub answer_over : (count ≡ most → ⊥) → 2 ≤ len → g + len ≤ n → most < count → Answered t behind n g len 5
+  pub answer_over : (count ≡ most → ⊥) → 2 ≤ len → g + len ≤ n → most < count → Answered t behind n g len (Err Damaged)
   answer_over ne a b d = record { room = tt; script = λ m h c. rw (← most_is) (over_full m h c ne a b d) }
 
   -- the rest of the script decides
-  pub answer_beside : (count ≡ most → ⊥) → 2 ≤ len → g + len ≤ n → count ≤ most → (r : ℕ) → AnsweredBeside t behind n g len r → Answered t behind n g len r
+  pub answer_beside : (count ≡ most → ⊥) → 2 ≤ len → g + len ≤ n → count ≤ most → (r : Result ⊤ Refusal) → AnsweredBeside t behind n g len r → Answered t behind n g len r
   answer_beside ne a b d r s = record { room = room r; script = λ m h c. script m h c r (s m h c) }
     where
-      room : (r : ℕ) → Admitted t n g len r
-      room zero = record { spare = omega (arith, ne); long = a; inside = b }
-      room (suc r) = tt
+      room : (r : Result ⊤ Refusal) → Admitted t n g len r
+      room (Ok u) = record { spare = omega (arith, ne); long = a; inside = b }
+      room (Err r) = tt
 
-      script : (m : Memory) → Holds m t → (c r : ℕ) → Goes m (beside behind n c g len (entry t 0)) (laying n c g len (entry t 0)) r
+      script : (m : Memory) → Holds m t → (c : ℕ) (r : Result ⊤ Refusal) → Goes m (beside behind n c g len (entry t 0)) (laying n c g len (entry t 0)) r
           → Goes m (region_script (most_of t) behind n c g len) (laying n c g len (entry t 0)) r
-      script m h c zero q = rw (← most_is) (goes_on m h c ne a b d ∙ rw count_is q)
-      script m h c (suc r) q = rw (← most_is) (goes_on m h c ne a b d ∙ rw count_is q)
+      script m h c (Ok u) q = rw (← most_is) (goes_on m h c ne a b d ∙ rw count_is q)
+      script m h c (Err r) q = rw (← most_is) (goes_on m h c ne a b d ∙ rw count_is q)
 
 -- ---- the look
 
-module _ (t : List ℕ) (behind n g len count : ℕ) (found : Findings) (count_is : count ≡ entry t 0) (seen : LookedThrough t n g len count found) where
-  -- what was found
-  abbrev said : Looked
-  said = record { meets = found.meets; wrong = found.wrong }
-
-  module _ (m : Memory) (h : Holds m t) where
-    -- as the script says it
-    overlapped : found.clear ≡ false → run m (see_regions n g len count 0 nothing_seen) ≡ no 4
-    overlapped e = sym (seen m h) ∙ ap (λ (b : Bool). told b said) e
-
-    cleared : found.clear ≡ true → Gives m (see_regions n g len count 0 nothing_seen) said
-    cleared e = sym (seen m h) ∙ ap (λ (b : Bool). told b said) e
-
+module _ (t : List ℕ) (n g len count : ℕ) (count_is : count ≡ entry t 0) where
   -- a region overlaps
-  pub beside_overlap : found.clear ≡ false → AnsweredBeside t behind n g len 4
-  beside_overlap e m h c = rw (← count_is) (halts m (see_regions n g len count 0 nothing_seen) _ (overlapped m h e))
+  pub beside_overlap : (behind : ℕ) (r : Refusal) → LookedThrough t n g len count (Err r) → AnsweredBeside t behind n g len (Err r)
+  beside_overlap behind r seen m h c = rw (← count_is) (halts m (see_regions n g len count 0 nothing_seen) _ (sym (seen m h)))
 
-  -- none ends where it must
-  pub beside_apart : found.clear ≡ true → found.meets < behind → AnsweredBeside t behind n g len 4
-  beside_apart e a m h c = rw (← count_is)
-      (goes m (see_regions n g len count 0 nothing_seen) _ (cleared m h e) ∙ halts m (unless_le 4 behind found.meets) _ (halts_le m 4 behind found.meets a))
+  module _ (found : Findings) (seen : LookedThrough t n g len count (Ok found)) where
+    -- none ends where it must
+    pub beside_apart : (place : Place) → (Allowed place found.meets → ⊥) → AnsweredBeside t (asked place) n g len (Err Misplaced)
+    beside_apart place far m h c = rw (← count_is)
+        (goes m (see_regions n g len count 0 nothing_seen) _ (sym (seen m h))
+        ∙ halts m (unless_le 4 (asked place) (bit found.meets)) _ (halts_le m 4 (asked place) (bit found.meets) (omega (arith, far))))
 
-  -- an entry can't be right
-  pub beside_wrong : found.clear ≡ true → behind ≤ found.meets → (found.wrong ≡ 0 → ⊥) → AnsweredBeside t behind n g len 5
-  beside_wrong e a b m h c = rw (← count_is)
-      (goes m (see_regions n g len count 0 nothing_seen) _ (cleared m h e) ∙ goes m (unless_le 4 behind found.meets) _ (gives_le m 4 behind found.meets a)
-      ∙ halts m (must_eq found.wrong 0) _ (halts_eq m 5 found.wrong 0 b))
+    module _ (place : Place) (met : Allowed place found.meets) where
+      -- an entry can't be right
+      pub beside_wrong : found.wrong ≡ true → AnsweredBeside t (asked place) n g len (Err Damaged)
+      beside_wrong e m h c = rw (← count_is)
+          (goes m (see_regions n g len count 0 nothing_seen) _ (sym (seen m h))
+          ∙ goes m (unless_le 4 (asked place) (bit found.meets)) _ (gives_le m 4 (asked place) (bit found.meets) met)
+          ∙ halts m (must_eq (bit found.wrong) 0) _ (halts_eq m 5 (bit found.wrong) 0 (λ z. omega (arith, z, ap bit e))))
 
-  -- nothing is in the way
-  pub beside_clear : found.clear ≡ true → behind ≤ found.meets → found.wrong ≡ 0 → AnsweredBeside t behind n g len 0
-  beside_clear e a b m h c = rw (← count_is)
-      (goes m (see_regions n g len count 0 nothing_seen) _ (cleared m h e) ∙ goes m (unless_le 4 behind found.meets) _ (gives_le m 4 behind found.meets a)
-      ∙ goes m (must_eq found.wrong 0) _ (gives_eq m 5 found.wrong 0 b))
+      -- nothing is in the way
+      pub beside_clear : found.wrong ≡ false → AnsweredBeside t (asked place) n g len (Ok tt)
+      beside_clear e m h c = rw (← count_is)
+          (goes m (see_regions n g len count 0 nothing_seen) _ (sym (seen m h))
+          ∙ goes m (unless_le 4 (asked place) (bit found.meets)) _ (gives_le m 4 (asked place) (bit found.meets) met)
+          ∙ goes m (must_eq (bit found.wrong) 0) _ (gives_eq m 5 (bit found.wrong) 0 (ap bit e)))

@@ -5,10 +5,8 @@
 #![tactic(auto)]
 
 ghost use Rattle.std.specs.Prelude.{◌≡◌, ◌+◌, ◌*◌, ◌≤◌, ◌<◌, length};
-ghost use Rattle.choice.specs.Choice.{if_eq};
 ghost use Rattle.choice.specs.Says.{Says};
 ghost use Rattle.table.specs.Table.{entry};
-ghost use Rattle.sound.specs.RegionPlan.{wrong_of};
 ghost use Rattle.word.specs.Word.{put_at};
 ghost use Rattle.slices.specs.Decode.{grains};
 ghost use Rattle.sound.specs.RegionPlan.{piece_writes};
@@ -17,106 +15,113 @@ ghost use Rattle.free_list.specs.Written.{Written};
 ghost use Rattle.region.specs.Piece.{Placeable};
 ghost use Rattle.region.specs.Pieces.{full_writes, Layable};
 ghost use Rattle.region.specs.Entered.{with_region};
-ghost use Rattle.region.specs.Look.{Overlap, LookedThrough};
-ghost use Rattle.region.specs.Admit.{Answered, AnsweredBeside};
+ghost use Rattle.region.specs.Look.{Overlap, Wrong, LookedThrough};
+ghost use Rattle.region.specs.Admit.{asked, Allowed, Answered, AnsweredBeside};
 
 use header::{BEFORE, NONE, SENTINEL, SIZE};
+use refusal::Refusal;
 
 // The grains of a piece that is as long as a piece can be.
 pub const PIECE: usize = 4096;
 
-// Answers: the table holds no more regions; the region is not one that can be given; the table can't be right.
-const FULL: usize = 6;
-
-const MISPLACED: usize = 4;
-
-const DAMAGED: usize = 5;
-
-// No refusal: the region can be laid out.
-const ADMITTED: usize = 0;
-
-// What the table says of a new region.
-#[derive(Clone, Copy)]
-pub struct Findings {
-    // no entry overlaps it
-    pub clear: bool,
-    // 1 where an entry ends at its first grain
-    pub meets: usize,
-    // 1 where an entry can't be right
-    pub wrong: usize,
+// Where a new region may begin: anywhere, or only where another ended.
+#[derive(Clone, Copy, Debug, PartialEq, Eq)]
+pub enum Place {
+    Anywhere,
+    Behind,
 }
 
-// Whether len grains from g on can be given, in an arena of n: 0, or the refusal. With `behind` 1 the region must begin where
-// another ended.
-pub fn admit(regions: &[u64], behind: usize, n: usize, g: usize, len: usize) -> usize
+impl Place {
+    // Whether a region may begin where another ends, or where none does.
+    fn allows(self, meets: bool) -> bool
+        ensures { Says (Allowed self meets) result }
+    {
+        match self {
+            Place::Anywhere => true,
+            Place::Behind => meets,
+        }
+    }
+}
+
+// What the table says of a new region that no entry overlaps.
+#[derive(Clone, Copy, Debug, PartialEq, Eq)]
+pub struct Findings {
+    // an entry ends at its first grain
+    pub meets: bool,
+    // an entry can't be right
+    pub wrong: bool,
+}
+
+// Whether len grains from g on can be given at this place, in an arena of n.
+pub fn admit(regions: &[u64], place: Place, n: usize, g: usize, len: usize) -> Result<(), Refusal>
     requires { 1 ≤ length regions.now }
-    ensures { Answered regions.now behind n g len result }
+    ensures { Answered regions.now (asked place) n g len result }
 {
     let count = number(regions, 0);
     let most = (regions.len() - 1) / 2;
     if count == most {
-        return FULL;
+        return Err(Refusal::TooShort);
     }
     if len < 2 {
-        return MISPLACED;
+        return Err(Refusal::Misplaced);
     }
     if n < g {
-        return MISPLACED;
+        return Err(Refusal::Misplaced);
     }
     if n - g < len {
-        return MISPLACED;
+        return Err(Refusal::Misplaced);
     }
     if most < count {
-        return DAMAGED;
+        return Err(Refusal::Damaged);
     }
-    admit_beside(regions, behind, n, g, len)
+    admit_beside(regions, place, n, g, len)
 }
 
 // The same, where the region is inside the arena and the table has room for it: the other regions are looked at.
-fn admit_beside(regions: &[u64], behind: usize, n: usize, g: usize, len: usize) -> usize
+fn admit_beside(
+    regions: &[u64],
+    place: Place,
+    n: usize,
+    g: usize,
+    len: usize,
+) -> Result<(), Refusal>
     requires { (2 * entry regions.now 0 + 1 ≤ length regions.now) × (g + len ≤ n) }
-    ensures { AnsweredBeside regions.now behind n g len result }
+    ensures { AnsweredBeside regions.now (asked place) n g len result }
 {
-    let found = look(regions, n, g, len, number(regions, 0));
-    if !found.clear {
-        return MISPLACED;
+    let found = look(regions, n, g, len, number(regions, 0))?;
+    if !place.allows(found.meets) {
+        return Err(Refusal::Misplaced);
     }
-    if found.meets < behind {
-        return MISPLACED;
+    if found.wrong {
+        return Err(Refusal::Damaged);
     }
-    if found.wrong != 0 {
-        return DAMAGED;
-    }
-    ADMITTED
+    Ok(())
 }
 
-// The first `count` entries of the table, for a new region of len grains from g on, in an arena of n.
-pub fn look(regions: &[u64], n: usize, g: usize, len: usize, count: usize) -> Findings
+// The first `count` entries of the table, for a new region of len grains from g on, in an arena of n: refused where one of
+// them overlaps it.
+pub fn look(
+    regions: &[u64],
+    n: usize,
+    g: usize,
+    len: usize,
+    count: usize,
+) -> Result<Findings, Refusal>
     requires { (2 * count + 1 ≤ length regions.now) × (g + len ≤ n) }
     ensures { LookedThrough regions.now n g len count result }
 {
-    let mut meets: usize = 0;
-    let mut wrong: usize = 0;
-    let mut i = 0;
-    while i < count {
+    let mut meets = false;
+    let mut wrong = false;
+    for i in 0..count {
         let first = number(regions, 2 * i + 1);
         let end = number(regions, 2 * i + 2);
         if overlaps(first, end, g, len) {
-            return Findings {
-                clear: false,
-                meets,
-                wrong,
-            };
+            return Err(Refusal::Misplaced);
         }
-        meets = meets_after(end, g, meets);
-        wrong = wrong_after(n, first, end, wrong);
-        i += 1;
+        meets |= end == g;
+        wrong |= is_wrong(n, first, end);
     }
-    Findings {
-        clear: true,
-        meets,
-        wrong,
-    }
+    Ok(Findings { meets, wrong })
 }
 
 // Number i of the table.
@@ -141,30 +146,17 @@ fn overlaps(first: usize, end: usize, g: usize, len: usize) -> bool
     true
 }
 
-// What is known of `meets` behind an entry with this end.
-fn meets_after(end: usize, g: usize, before: usize) -> usize
-    ensures { result ≡ if_eq end g 1 before }
-{
-    if end == g {
-        return 1;
-    }
-    before
-}
-
-// What is known of `wrong` behind this entry.
-fn wrong_after(n: usize, first: usize, end: usize, before: usize) -> usize
-    ensures { result ≡ wrong_of n first end before }
+// Whether the region from first to end can't be one of an arena of n grains.
+fn is_wrong(n: usize, first: usize, end: usize) -> bool
+    ensures { Says (Wrong n first end) result }
 {
     if end < 2 {
-        return 1;
+        return true;
     }
     if end - 2 < first {
-        return 1;
+        return true;
     }
-    if n < end {
-        return 1;
-    }
-    before
+    n < end
 }
 
 // ---- laying out
@@ -187,11 +179,10 @@ pub fn lay_full(a: &mut [u8], lists: &mut [u64], g: usize, count: usize, h: u64)
     ensures { Written a.old lists.old (full_writes g (link a.old h) count) a.new lists.new }
 {
     let mut head = h;
-    let mut i = 0;
-    while i < count {
-        lay_piece(a, lists, g + PIECE * i, PIECE, head);
-        head = header::bytes_of(g + PIECE * i);
-        i += 1;
+    for i in 0..count {
+        let x = g + PIECE * i;
+        lay_piece(a, lists, x, PIECE, head);
+        head = header::bytes_of(x);
     }
 }
 

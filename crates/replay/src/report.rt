@@ -1,150 +1,111 @@
 // What the program says.
-use crate::{heap, parse};
-use std::io;
+ghost use Rattle.std.specs.Prelude.{◌<◌};
+
+use crate::call::{Answer, Call};
+use crate::input::Fault;
+use crate::record::{Record, Wanted};
+use crate::{ARENA, REGIONS};
+use refusal::Refusal;
+use std::{fmt, io};
+
+// How many calls were made, and how many of them agreed.
+#[derive(Clone, Copy, Debug)]
+pub struct Score {
+    pub made: u64,
+    pub agreed: u64,
+    ghost bounded: { made < 1000000000 },
+}
+
+impl Score {
+    // The number of the line behind those of the calls.
+    fn next_line(self) -> u64 {
+        self.made + 1
+    }
+}
+
+impl fmt::Display for Score {
+    fn fmt<W: fmt::Write>(&self, f: &mut fmt::Formatter<W>) -> fmt::Result {
+        write!(f, "{} of {} calls agreed", self.agreed, self.made)
+    }
+}
 
 // ---- of a line
-
-// The line that is no call, and what it should have been.
-pub fn malformed(rt: &impl Print, line: u64, text: &[u8], wanted: parse::Wanted) -> io::Result<()> {
-    say_line(rt, line, text)?;
-    say(rt, b"    ")?;
-    match wanted {
-        parse::Wanted::Number => say(rt, b"expected six decimal numbers below 2^64"),
-        parse::Wanted::Space => say(rt, b"expected six numbers with one space between"),
-        parse::Wanted::End => say(rt, b"expected the line's end behind six numbers"),
-        parse::Wanted::Kind => say(
-            rt,
-            b"expected a kind of call from 0 to 3 as the first number",
-        ),
-        parse::Wanted::Region => say(
-            rt,
-            b"expected a region: 0 start length mode answer 0, with mode 0 or 1",
-        ),
-        parse::Wanted::Take => say(rt, b"expected a take: 1 size alignment 0 answer usable"),
-        parse::Wanted::Return => say(rt, b"expected a return: 2 offset alignment 0 0 0"),
-    }?;
-    say(rt, b"\n")
-}
-
-pub fn too_long(rt: &impl Print, line: u64) -> io::Result<()> {
-    say(rt, b"line ")?;
-    say_number(rt, line)?;
-    say(
-        rt,
-        b": longer than any call is\n    expected six decimal numbers below 2^64\n",
-    )
-}
-
-pub fn unreadable(rt: &impl Print, line: u64) -> io::Result<()> {
-    say(rt, b"line ")?;
-    say_number(rt, line)?;
-    say(
-        rt,
-        b": the input can't be read; give the recorded calls as standard input, as in: replay <FILE\n",
-    )
-}
 
 // The call on which the heap and the record differ.
 pub fn different(
     rt: &impl Print,
-    line: u64,
+    score: Score,
     text: &[u8],
-    c: parse::Call,
-    a: heap::Answer,
+    record: Record,
+    heard: Result<Answer, Refusal>,
 ) -> io::Result<()> {
-    say_line(rt, line, text)?;
-    say(rt, b"    recorded: answer ")?;
-    say_number(rt, c.answer)?;
-    say(rt, b", usable ")?;
-    say_number(rt, c.usable)?;
-    say(rt, b"\n    the heap: answer ")?;
-    say_number(rt, a.answer)?;
-    say(rt, b", usable ")?;
-    say_number(rt, a.usable)?;
-    if a.refusal != 0 {
-        say(rt, b", refused with ")?;
-        say_number(rt, a.refusal)?;
+    say_line(rt, score.next_line(), text)?;
+    println!(rt;
+        "    recorded: {}",
+        record.answer.unwrap_or(Answer::REFUSED)
+    )?;
+    print!(rt; "    the heap: {}", heard.unwrap_or(Answer::REFUSED))?;
+    if let Err(refusal) = heard {
+        print!(rt; ", refused with {}", u64::from(refusal))?;
     }
-    say(rt, b"\n")?;
-    if is_region_refused(c, a) {
-        say(
-            rt,
-            b"    the arena has 1048576 bytes, with room for 32 regions\n",
+    println!(rt)?;
+    if let (Call::Give { .. }, Err(_)) = (record.call, heard) {
+        println!(rt;
+            "    the arena has {ARENA} bytes, with room for {} regions",
+            (REGIONS - 1) / 2
         )?;
     }
     Ok(())
 }
 
-fn is_region_refused(c: parse::Call, a: heap::Answer) -> bool {
-    if a.refusal == 0 {
-        return false;
-    }
-    c.kind == parse::REGION
+fn say_line(rt: &impl Print, line: u64, text: &[u8]) -> io::Result<()> {
+    print!(rt; "line {line}: ")?;
+    rt.write_all(text)?;
+    println!(rt)
 }
 
 // ---- of all
 
-// The input ended behind so many calls, of which so many agreed.
-pub fn finish(rt: &impl Print, made: u64, agreed: u64) -> io::Result<()> {
+// The input ended.
+pub fn finished(rt: &impl Print, score: Score) -> io::Result<()> {
+    let Score { made, agreed } = score;
     if made == 0 {
-        return say(rt, b"FAILED: the input is empty, so no call was made\n");
+        println!(rt; "FAILED: the input is empty, so no call was made")
+    } else if agreed == made {
+        println!(rt; "all {made} calls agreed")
+    } else {
+        println!(rt; "FAILED: {score}")
     }
-    if agreed == made {
-        say(rt, b"all ")?;
-        say_number(rt, made)?;
-        return say(rt, b" calls agreed\n");
-    }
-    say(rt, b"FAILED: ")?;
-    say_agreed(rt, made, agreed)
 }
 
-// The next line was no call.
-pub fn stopped(rt: &impl Print, made: u64, agreed: u64) -> io::Result<()> {
-    say(rt, b"FAILED: stopped at that line; before it ")?;
-    say_agreed(rt, made, agreed)
+// The next line is no call.
+pub fn malformed(rt: &impl Print, score: Score, text: &[u8], wanted: Wanted) -> io::Result<()> {
+    say_line(rt, score.next_line(), text)?;
+    println!(rt; "    {wanted}")?;
+    stopped(rt, score)
+}
+
+// There is no next line, and not for the input's end.
+pub fn unusable(rt: &impl Print, score: Score, fault: Fault) -> io::Result<()> {
+    println!(rt; "line {}: {fault}", score.next_line())?;
+    stopped(rt, score)
+}
+
+fn stopped(rt: &impl Print, score: Score) -> io::Result<()> {
+    println!(rt; "FAILED: stopped at that line; before it {score}")
 }
 
 pub fn endless(rt: &impl Print, made: u64) -> io::Result<()> {
-    say(rt, b"FAILED: the input has more lines than ")?;
-    say_number(rt, made)?;
-    say(
-        rt,
-        b"; cut it into shorter files, each from an empty heap on\n",
+    println!(rt;
+        "FAILED: the input has more lines than {made}; cut it into shorter files, each from an empty heap on"
     )
 }
 
 // There is no empty heap to begin with.
-pub fn not_begun(rt: &impl Print, why: u64) -> io::Result<()> {
-    say(rt, b"init refused with ")?;
-    say_number(rt, why)?;
-    say(
-        rt,
-        b": a table is too short for the arena; make LISTS, LIVE and REGIONS of src/main.rt as long as crate tables says\n",
+pub fn not_begun(rt: &impl Print, refusal: Refusal) -> io::Result<()> {
+    println!(rt;
+        "init refused with {}: a table is too short for the arena; make LISTS, LIVE and REGIONS of src/main.rt as long as crate tables says",
+        u64::from(refusal)
     )?;
-    say(rt, b"FAILED: no call was made\n")
-}
-
-// ---- words
-
-fn say_line(rt: &impl Print, line: u64, text: &[u8]) -> io::Result<()> {
-    say(rt, b"line ")?;
-    say_number(rt, line)?;
-    say(rt, b": ")?;
-    say(rt, text)?;
-    say(rt, b"\n")
-}
-
-fn say_agreed(rt: &impl Print, made: u64, agreed: u64) -> io::Result<()> {
-    say_number(rt, agreed)?;
-    say(rt, b" of ")?;
-    say_number(rt, made)?;
-    say(rt, b" calls agreed\n")
-}
-
-fn say(rt: &impl Print, text: &[u8]) -> io::Result<()> {
-    rt.write_all(text)
-}
-
-fn say_number(rt: &impl Print, n: u64) -> io::Result<()> {
-    rt.print(n)
+    println!(rt; "FAILED: no call was made")
 }

@@ -1,6 +1,6 @@
 -- What is handed out can be given back: the payload that a block at grain y gets for an alignment a stands at an offset
 -- that a suits, so it is never refused for its alignment or its kind, and its number is found again.
-use Rattle.std.specs.Prelude.{ℕ, ◌+◌, ◌-◌, ◌*◌, ◌/◌, ◌%◌, ◌^◌, ◌≤◌, ◌<◌, ◌≡◌}
+use Rattle.std.specs.Prelude.{ℕ, ◌+◌, ◌-◌, ◌*◌, ◌/◌, ◌%◌, ◌^◌, ◌≤◌, ◌<◌, ◌≡◌, Result, Ok, Err}
 use Rattle.std.proofs.Common.{div-add-mod', mul_assoc, arith, ap, sym, ◌∙◌, inl, inr, ⊎_elim}
 use Rattle.std.proofs.Math.Nat.{mul-mod_left}
 use Rattle.std.proofs.Math.Pow.{pow-lt}
@@ -10,10 +10,10 @@ use Rattle.definition.specs.Calls.{place}
 use Rattle.definition.specs.Units.{multiple as multiple_of}
 use Rattle.invariants.specs.Placing.{place_most}
 use Rattle.invariants.proofs.Placing.{align_pos, place_aligned, place_some}
-use Rattle.request.specs.declared.Payload.{Payload}
-use Rattle.request.specs.declared.Payload.TheVariants.{At, Unsuited, NoKind}
+use Rattle.refusal.specs.declared.Refusal.{Refusal}
+use Rattle.refusal.specs.declared.Refusal.TheVariants.{NoList, OutOfRange, NotLive, Misplaced, Damaged, TooShort}
 use Rattle.request.specs.Alignment.{Alignment, pow_split, divides_times, multiple_align, multiple_bytes}
-use Rattle.request.specs.Returned.{Large, OfKind, Suits, Returned, large_divides}
+use Rattle.request.specs.Returned.{Large, OfKind, Suits, Wrong, Returned, large_divides}
 
 -- the payload's number, for an alignment in bytes
 abbrev pub handed : ℕ → ℕ → ℕ
@@ -79,7 +79,14 @@ module _ (a y : ℕ) (l : Alignment a) where
       (le? (handed a y % 2) 0)
 
   -- so only one answer is right
-  pub handed_back : (r : Payload) → Returned (16 * handed a y) a r → r ≡ At (handed a y)
-  handed_back (At q) s = ap At (omega (arith, s.number))
-  handed_back Unsuited s = absurd (s handed_suits)
-  handed_back NoKind s = absurd (s.1 handed_kind)
+  pub handed_back : (r : Result ℕ Refusal) → Returned (16 * handed a y) a r → r ≡ Ok (handed a y)
+  handed_back (Ok q) s = ap Ok (omega (arith, s.number))
+  handed_back (Err e) s = absurd (unwronged e s)
+    where
+      unwronged : (e : Refusal) → Wrong (16 * handed a y) a e → ⊥
+      unwronged NoList w = w
+      unwronged OutOfRange w = w handed_suits
+      unwronged NotLive w = w.1 handed_kind
+      unwronged Misplaced w = w
+      unwronged Damaged w = w
+      unwronged TooShort w = w

@@ -1,12 +1,12 @@
 -- A payload that is given back, by its offset x in bytes and an alignment a. The offset is of the small kind, 16 more
 -- than a multiple of 32, or of the large kind, a multiple of 32, or of none. The alignment has to suit it: first that
 -- is seen to, and then the offset's kind.
-use Rattle.std.specs.Prelude.{ℕ, ◌-◌, ◌*◌, ◌/◌, ◌%◌, ◌^◌, ◌≤◌, ◌<◌, ◌≡◌, refl, ◌⊎◌}
+use Rattle.std.specs.Prelude.{ℕ, ◌-◌, ◌*◌, ◌/◌, ◌%◌, ◌^◌, ◌≤◌, ◌<◌, ◌≡◌, refl, ◌⊎◌, Result, MatchResult}
 use Rattle.std.proofs.Common.{div-add-mod', arith, ap, sym, ◌∙◌, inl, inr, ⊎_elim}
 use Rattle.std.specs.Int.Bits.{bit_and}
 use Rattle.align.specs.Align.{Power}
-use Rattle.request.specs.declared.Payload.{Payload}
-use Rattle.request.specs.declared.Payload.TheVariants.{At, Unsuited, NoKind}
+use Rattle.refusal.specs.declared.Refusal.{Refusal}
+use Rattle.refusal.specs.declared.Refusal.TheVariants.{NoList, OutOfRange, NotLive, Misplaced, Damaged, TooShort}
 use Rattle.request.specs.Alignment.{Alignment, rest_masked, power_beside, divides_times}
 
 abbrev pub Small : ℕ → Type 0
@@ -31,17 +31,20 @@ pub record Stands (x a q : ℕ) : Type 0 where
   pub kind : OfKind x
   pub number : q ≡ x / 16
 
--- the payload's number, or what is wrong: the alignment (refusal 2), or else the offset (refusal 3)
-abbrev pub Returned : ℕ → ℕ → Payload → Type 0
-Returned x a (At q) = Stands x a q
-Returned x a Unsuited = Suits x a → ⊥
-Returned x a NoKind = Suits x a × (OfKind x → ⊥)
+-- what is wrong: the alignment, or else the offset
+abbrev pub Wrong : ℕ → ℕ → Refusal → Type 0
+Wrong x a NoList = ⊥
+Wrong x a OutOfRange = Suits x a → ⊥
+Wrong x a NotLive = Suits x a × (OfKind x → ⊥)
+Wrong x a Misplaced = ⊥
+Wrong x a Damaged = ⊥
+Wrong x a TooShort = ⊥
+
+-- the payload's number, or what is wrong
+abbrev pub Returned : ℕ → ℕ → Result ℕ Refusal → Type 0
+Returned x a r = MatchResult r (Stands x a) (Wrong x a)
 
 -- ---- as the code has it
-
--- no alignment
-pub unsuited_none : (x a : ℕ) → (Alignment a → ⊥) → Suits x a → ⊥
-unsuited_none x a h s = h s.alignment
 
 -- it doesn't divide the offset
 pub unsuited_rest : (x a : ℕ) → (bit_and x (a - 1) ≡ 0 → ⊥) → Suits x a → ⊥
@@ -66,10 +69,6 @@ returned_large x a l d h =
       kind = inr k;
       number = refl;
     }
-
--- a small alignment for an offset of the large kind
-pub unsuited_kind : (x a : ℕ) → a < 32 → Large x → Suits x a → ⊥
-unsuited_kind x a h k s = omega (arith, s.large k)
 
 -- a small alignment suits whatever it divides, but for the large kind
 suits_small : (x a : ℕ) → Alignment a → bit_and x (a - 1) ≡ 0 → a < 32 → (Large x → ⊥) → Suits x a

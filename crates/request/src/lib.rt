@@ -12,6 +12,8 @@ ghost use Rattle.request.specs.Alignment.{Alignment};
 ghost use Rattle.request.specs.Asked.{Asked};
 ghost use Rattle.request.specs.Returned.{Returned};
 
+use refusal::Refusal;
+
 // The bytes of half a grain, and of a grain.
 const HALF: usize = 16;
 
@@ -24,42 +26,26 @@ const MOST: usize = 4096;
 const END: usize = 18446744073709551584;
 
 // A request in the heap's units: the payload's length and the multiple at which it stands in half grains, and what is
-// looked for in grains. Not ok: out of range, and the numbers say nothing.
+// looked for in grains.
 #[derive(Clone, Copy)]
 pub struct Request {
-    pub ok: bool,
     pub length: usize,
     pub multiple: usize,
     pub wanted: usize,
-}
-
-// A payload given back: its number in half grains; or an alignment that doesn't suit its offset; or an offset at which
-// no payload can be.
-#[derive(Clone, Copy)]
-pub enum Payload {
-    At(usize),
-    Unsuited,
-    NoKind,
 }
 
 // Whether an alignment may be asked for.
 pub fn is_alignment(align: usize) -> bool
     ensures { Says (Alignment align) result }
 {
-    if MOST < align {
-        return false;
-    }
-    align::is_power(align as u64)
+    align <= MOST && align::is_power(align as u64)
 }
 
 // An alignment in half grains.
 pub fn multiple_of(align: usize) -> usize
     ensures { result ≡ multiple_of 16 align }
 {
-    if align < HALF {
-        return 1;
-    }
-    align / HALF
+    (align / HALF).max(1)
 }
 
 // Half grains rounded up to grains.
@@ -70,35 +56,24 @@ fn grains_of(halves: usize) -> usize
     (halves + 1) / 2
 }
 
-// A request of size bytes at a multiple of align.
-pub fn request_of(size: usize, align: usize) -> Request
+// A request of size bytes at a multiple of align. Refused where it is out of range.
+pub fn request_of(size: usize, align: usize) -> Result<Request, Refusal>
     ensures { Asked size align result }
 {
     if !is_alignment(align) {
-        return Request {
-            ok: false,
-            length: 0,
-            multiple: 0,
-            wanted: 0,
-        };
+        return Err(Refusal::OutOfRange);
     }
     let multiple = multiple_of(align);
     if END - HALF * multiple < size {
-        return Request {
-            ok: false,
-            length: 0,
-            multiple: 0,
-            wanted: 0,
-        };
+        return Err(Refusal::OutOfRange);
     }
     let length = (size + (HALF - 1)) / HALF;
     let wanted = grains_of(length + multiple);
-    Request {
-        ok: true,
-        length: length,
-        multiple: multiple,
-        wanted: wanted,
-    }
+    Ok(Request {
+        length,
+        multiple,
+        wanted,
+    })
 }
 
 // The place of a payload in a block that starts at grain y.
@@ -117,26 +92,27 @@ pub fn keeps_of(d: usize, p: usize) -> usize
     grains_of(d + p)
 }
 
-// A payload that stands at an offset in bytes, given back with an alignment.
-pub fn payload_of(offset: usize, align: usize) -> Payload
+// The number in half grains of a payload that stands at an offset in bytes, given back with an alignment. Out of range
+// where the alignment doesn't suit the offset, and not live where no payload can be there.
+pub fn payload_of(offset: usize, align: usize) -> Result<usize, Refusal>
     ensures { Returned offset align result }
 {
     if !is_alignment(align) {
-        return Payload::Unsuited;
+        return Err(Refusal::OutOfRange);
     }
     if offset & (align - 1) != 0 {
-        return Payload::Unsuited;
+        return Err(Refusal::OutOfRange);
     }
     if GRAIN <= align {
-        return Payload::At(offset / HALF);
+        return Ok(offset / HALF);
     }
     if offset % GRAIN == 0 {
-        return Payload::Unsuited;
+        return Err(Refusal::OutOfRange);
     }
     if offset % GRAIN == HALF {
-        return Payload::At(offset / HALF);
+        return Ok(offset / HALF);
     }
-    Payload::NoKind
+    Err(Refusal::NotLive)
 }
 
 // ---- regions
@@ -145,10 +121,7 @@ pub fn payload_of(offset: usize, align: usize) -> Payload
 pub fn first_grain(start: usize) -> usize
     ensures { result ≡ first_grain 16 start }
 {
-    if start % GRAIN == 0 {
-        return start / GRAIN;
-    }
-    start / GRAIN + 1
+    start.div_ceil(GRAIN)
 }
 
 // The bytes from an offset up to there.
@@ -165,9 +138,5 @@ pub fn bytes_before(start: usize) -> usize
 pub fn whole_grains(start: usize, len: usize) -> usize
     ensures { result ≡ whole_grains 16 start len }
 {
-    let before = bytes_before(start);
-    if len < before {
-        return 0;
-    }
-    (len - before) / GRAIN
+    len.saturating_sub(bytes_before(start)) / GRAIN
 }

@@ -1,16 +1,24 @@
 -- What was found for a payload that gets another size, read as the result of its script: the deed.
-use Rattle.std.specs.Prelude.{ℕ, ◌-◌, ◌*◌}
+use Rattle.std.specs.Prelude.{ℕ, ◌-◌, ◌*◌, Result, Ok, Err}
 use Rattle.definition.specs.Calls.{place, keeps}
-use Rattle.script.specs.Script.{Result, ok, no}
+use Rattle.script.specs.Script.{ok, no}
+use Rattle.script.specs.Script.{Result as Answer}
 use Rattle.plans.specs.Deeds.{Deed}
 use Rattle.plans.specs.Reallocate.{stay_deed, stretch_deed, down_deed, elsewhere_deed}
+use Rattle.refusal.specs.Number.{number}
+use Rattle.refusal.specs.declared.Refusal.{Refusal}
+use Rattle.hand_out.specs.Answers.{taken_of}
 use Rattle.resize.specs.declared.Resizing.{Resizing}
-use Rattle.resize.specs.declared.Resizing.TheVariants.{Refused, Stay, Stretch, Down, Elsewhere}
+use Rattle.resize.specs.declared.Resizing.TheVariants.{Stay, Stretch, Down, Elsewhere}
 
 -- the payload at q gets p half grains at a multiple of u
-abbrev pub resized : ℕ → ℕ → ℕ → Resizing → Result Deed
-resized q p u (Refused i) = no i
-resized q p u Stay = ok (stay_deed q)
-resized q p u (Stretch x s b) = ok (stretch_deed q x s (q - 2 * x) b (keeps (q - 2 * x) p))
-resized q p u (Down x s a b) = ok (down_deed x s (q - 2 * x) a b (keeps (place u (x - a)) p) (place u (x - a)))
-resized q p u (Elsewhere x s a b k y t) = ok (elsewhere_deed p u x s (q - 2 * x) a b (record { list = k; block = y; grains = t }))
+abbrev pub resizing_deed : ℕ → ℕ → ℕ → Resizing → Deed
+resizing_deed q p u Stay = stay_deed q
+resizing_deed q p u (Stretch o b) = stretch_deed q o.at o.grains (q - 2 * o.at) b (keeps (q - 2 * o.at) p)
+resizing_deed q p u (Down o a b) = down_deed o.at o.grains (q - 2 * o.at) a b (keeps (place u (o.at - a)) p) (place u (o.at - a))
+resizing_deed q p u (Elsewhere o a b t) = elsewhere_deed p u o.at o.grains (q - 2 * o.at) a b (taken_of t)
+
+-- or is refused
+abbrev pub resized : ℕ → ℕ → ℕ → Result Resizing Refusal → Answer Deed
+resized q p u (Ok r) = ok (resizing_deed q p u r)
+resized q p u (Err r) = no (number r)

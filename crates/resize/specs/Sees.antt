@@ -1,5 +1,5 @@
 -- The checks, step by step.
-use Rattle.std.specs.Prelude.{ℕ, ◌+◌, ◌-◌, ◌*◌, ◌≤◌, ◌<◌, ◌≡◌, true, false}
+use Rattle.std.specs.Prelude.{ℕ, ◌+◌, ◌-◌, ◌*◌, ◌≤◌, ◌<◌, ◌≡◌}
 use Rattle.std.proofs.Common.{arith, ◌∙◌}
 use Rattle.std.proofs.Math.Path.{ap}
 use Rattle.choice.specs.Choice.{eq_yes, eq_no, le_yes, le_no}
@@ -12,7 +12,6 @@ use Rattle.plans.specs.Deeds.{Deed}
 use Rattle.plans.specs.Checks.{see_owner, see_guard, see_after, see_before, see_rest, see_join}
 use Rattle.plans.specs.Allocate.{Taken, see_taken}
 use Rattle.plans.specs.Reallocate.{stay_deed, stretch_deed, down_deed, elsewhere_deed, elsewhere_script, down_script, move_script, stretch_script, resize_script}
-use Rattle.entries.specs.Answers.{verdict}
 
 -- the checks of reallocate as one script, whose answer is the deed
 unfoldable pub block : ℕ → ℕ → ℕ → ℕ → ℕ → ℕ → Script Deed
@@ -41,19 +40,19 @@ module _ (m : Memory) (n : ℕ) where
     -- ---- its guard, and its size
 
     module _ (x s : ℕ) where
-      pub guard_bad : run m (see_guard x) ≡ verdict false → run m (block n q p u x s) ≡ no 5
+      pub guard_bad : (i : ℕ) → run m (see_guard x) ≡ no i → run m (block n q p u x s) ≡ no i
       unfolding block
-      guard_bad h = halts m (see_guard x) _ h
+      guard_bad i h = halts m (see_guard x) _ h
 
-      module _ (h : run m (see_guard x) ≡ verdict true) where
+      module _ (h : run m (see_guard x) ≡ ok (tt {0})) where
         pub size_same : keeps (q - 2 * x) p ≡ s → run m (block n q p u x s) ≡ ok (stay_deed q)
         unfolding block resize_script
         size_same e = goes m (see_guard x) _ h ∙ ap (run m) (eq_yes (keeps (q - 2 * x) p) s _ _ e) ∙ gives_done m _
 
         module _ (e : keeps (q - 2 * x) p ≡ s → ⊥) where
-          pub after_bad : run m (see_after n classes (x + s)) ≡ no 5 → run m (block n q p u x s) ≡ no 5
+          pub after_bad : (i : ℕ) → run m (see_after n classes (x + s)) ≡ no i → run m (block n q p u x s) ≡ no i
           unfolding block resize_script
-          after_bad k = goes m (see_guard x) _ h ∙ ap (run m) (eq_no (keeps (q - 2 * x) p) s _ _ e) ∙ halts m (see_after n classes (x + s)) _ k
+          after_bad i k = goes m (see_guard x) _ h ∙ ap (run m) (eq_no (keeps (q - 2 * x) p) s _ _ e) ∙ halts m (see_after n classes (x + s)) _ k
 
           pub after_found : (b : ℕ) → run m (see_after n classes (x + s)) ≡ ok b → run m (block n q p u x s) ≡ run m (stretch_script n classes q p u x s (q - 2 * x) b)
           unfolding block resize_script
@@ -63,11 +62,11 @@ module _ (m : Memory) (n : ℕ) where
 
   module _ (q p u x s d b : ℕ) where
     module _ (l : keeps d p ≤ s + b) where
-      pub stretch_bad : run m (see_rest n classes (s + b) (keeps d p)) ≡ verdict false → run m (stretch_script n classes q p u x s d b) ≡ no 5
+      pub stretch_bad : (i : ℕ) → run m (see_rest n classes (s + b) (keeps d p)) ≡ no i → run m (stretch_script n classes q p u x s d b) ≡ no i
       unfolding stretch_script
-      stretch_bad h = ap (run m) (le_yes (keeps d p) (s + b) _ _ l) ∙ halts m (see_rest n classes (s + b) (keeps d p)) _ h
+      stretch_bad i h = ap (run m) (le_yes (keeps d p) (s + b) _ _ l) ∙ halts m (see_rest n classes (s + b) (keeps d p)) _ h
 
-      pub stretch_found : run m (see_rest n classes (s + b) (keeps d p)) ≡ verdict true → run m (stretch_script n classes q p u x s d b) ≡ ok (stretch_deed q x s d b (keeps d p))
+      pub stretch_found : run m (see_rest n classes (s + b) (keeps d p)) ≡ ok (tt {0}) → run m (stretch_script n classes q p u x s d b) ≡ ok (stretch_deed q x s d b (keeps d p))
       unfolding stretch_script
       stretch_found h = ap (run m) (le_yes (keeps d p) (s + b) _ _ l) ∙ goes m (see_rest n classes (s + b) (keeps d p)) _ h ∙ gives_done m _
 
@@ -78,9 +77,9 @@ module _ (m : Memory) (n : ℕ) where
   module _ (p u x s d b : ℕ) where
     -- ---- the block before it
 
-    pub before_bad : run m (see_before n classes x) ≡ no 5 → run m (move_script n classes p u x s d b) ≡ no 5
+    pub before_bad : (i : ℕ) → run m (see_before n classes x) ≡ no i → run m (move_script n classes p u x s d b) ≡ no i
     unfolding move_script
-    before_bad h = halts m (see_before n classes x) _ h
+    before_bad i h = halts m (see_before n classes x) _ h
 
     module _ (a : ℕ) (h : run m (see_before n classes x) ≡ ok a) where
       pub before_none : a ≡ 0 → run m (move_script n classes p u x s d b) ≡ run m (elsewhere_script n classes p u x s d 0 b)
@@ -95,11 +94,11 @@ module _ (m : Memory) (n : ℕ) where
       -- ---- downwards
 
       module _ (l : keeps (place u (x - a)) p ≤ a + (s + b)) where
-        pub down_bad : run m (see_rest n classes (a + (s + b)) (keeps (place u (x - a)) p)) ≡ verdict false → run m (down_script n classes p u x s d a b) ≡ no 5
+        pub down_bad : (i : ℕ) → run m (see_rest n classes (a + (s + b)) (keeps (place u (x - a)) p)) ≡ no i → run m (down_script n classes p u x s d a b) ≡ no i
         unfolding down_script
-        down_bad h = ap (run m) (le_yes (keeps (place u (x - a)) p) (a + (s + b)) _ _ l) ∙ halts m (see_rest n classes (a + (s + b)) (keeps (place u (x - a)) p)) _ h
+        down_bad i h = ap (run m) (le_yes (keeps (place u (x - a)) p) (a + (s + b)) _ _ l) ∙ halts m (see_rest n classes (a + (s + b)) (keeps (place u (x - a)) p)) _ h
 
-        pub down_found : run m (see_rest n classes (a + (s + b)) (keeps (place u (x - a)) p)) ≡ verdict true
+        pub down_found : run m (see_rest n classes (a + (s + b)) (keeps (place u (x - a)) p)) ≡ ok (tt {0})
             → run m (down_script n classes p u x s d a b) ≡ ok (down_deed x s d a b (keeps (place u (x - a)) p) (place u (x - a)))
         unfolding down_script
         down_found h = ap (run m) (le_yes (keeps (place u (x - a)) p) (a + (s + b)) _ _ l) ∙ goes m (see_rest n classes (a + (s + b)) (keeps (place u (x - a)) p)) _ h ∙ gives_done m _
@@ -115,10 +114,10 @@ module _ (m : Memory) (n : ℕ) where
       taken_bad i h = halts m (see_taken n classes p u) _ h
 
       module _ (t : Taken) (h : run m (see_taken n classes p u) ≡ ok t) where
-        pub join_bad : run m (see_join n classes (a + (s + b))) ≡ verdict false → run m (elsewhere_script n classes p u x s d a b) ≡ no 5
+        pub join_bad : (i : ℕ) → run m (see_join n classes (a + (s + b))) ≡ no i → run m (elsewhere_script n classes p u x s d a b) ≡ no i
         unfolding elsewhere_script
-        join_bad k = goes m (see_taken n classes p u) _ h ∙ halts m (see_join n classes (a + (s + b))) _ k
+        join_bad i k = goes m (see_taken n classes p u) _ h ∙ halts m (see_join n classes (a + (s + b))) _ k
 
-        pub join_found : run m (see_join n classes (a + (s + b))) ≡ verdict true → run m (elsewhere_script n classes p u x s d a b) ≡ ok (elsewhere_deed p u x s d a b t)
+        pub join_found : run m (see_join n classes (a + (s + b))) ≡ ok (tt {0}) → run m (elsewhere_script n classes p u x s d a b) ≡ ok (elsewhere_deed p u x s d a b t)
         unfolding elsewhere_script
         join_found k = goes m (see_taken n classes p u) _ h ∙ goes m (see_join n classes (a + (s + b))) _ k ∙ gives_done m _

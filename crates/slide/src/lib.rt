@@ -5,37 +5,27 @@
 
 #![tactic(auto)]
 
-ghost use Rattle.std.specs.Prelude.{◌≡◌, ◌+◌, ◌*◌, ◌^◌, ◌≤◌, ◌<◌, length as length_of};
+ghost use Rattle.std.specs.Prelude.{◌≡◌, Some, ◌+◌, ◌*◌, ◌^◌, ◌≤◌, ◌<◌, length as length_of};
 ghost use Rattle.align.specs.Align.{Power};
 ghost use Rattle.slices.specs.Decode.{grains};
 ghost use Rattle.free_list.specs.Lent.{Long};
 ghost use Rattle.free_list.specs.Written.{Written, WrittenLive};
-ghost use Rattle.neighbours.specs.Leaving.{Known, both_leaving};
+ghost use Rattle.neighbours.specs.Leaving.{Linked, Known, both_leaving};
 ghost use Rattle.neighbours.specs.Within.{Behind};
-ghost use Rattle.slide.specs.Shown.{Farther, down_writes, Makeable, SeenRest, Downs, Slides};
+ghost use Rattle.slide.specs.Shown.{down_writes, Makeable, SeenRest, Downs, Slides};
 
 use bits::LISTS;
 use header::NONE;
 use neighbours::Neighbour;
+use refusal::Refusal;
 
-// The records contradict each other.
-const DAMAGED: u64 = 5;
-
-// The kinds of plan that are not refused: the payload moves down; it has to go elsewhere.
-pub const SLID: usize = 0;
-
-pub const ELSEWHERE: usize = 1;
-
-// Why the call is refused, unless with 0, and else the kind. The neighbours leave, the one behind first; of the grains at
-// the start of the one before some are kept for the payload at its place, and the rest, if any, goes to a list, before its
-// head.
-#[derive(Clone, Copy)]
+// The neighbours leave, the one behind first; of the grains at the start of the one before some are kept for the payload at
+// its place, and the rest, if any, goes to a list, before its head.
+#[derive(Clone, Copy, Debug, PartialEq, Eq)]
 pub struct Plan {
-    pub refusal: u64,
-    pub kind: usize,
     pub at: usize,
     pub grains: usize,
-    pub behind: Neighbour,
+    pub behind: Option<Neighbour>,
     pub before: Neighbour,
     pub place: usize,
     pub keep: usize,
@@ -43,49 +33,38 @@ pub struct Plan {
     pub head: u64,
 }
 
-// The list of what is left of a block, and its head, where all that is beside it agrees.
-#[derive(Clone, Copy)]
+// The list of what is left of a block, and its head.
+#[derive(Clone, Copy, Debug, PartialEq, Eq)]
 struct Rest {
-    pub ok: bool,
-    pub list: usize,
-    pub head: u64,
+    list: usize,
+    head: u64,
 }
 
 // ---- the plan
 
-// The used block of s grains at x, and what was seen behind it; its payload is to have other half grains at a multiple.
+// The used block of s grains at x, and what was seen behind it; its payload is to have other half grains at a multiple. There
+// is no plan where it has to go elsewhere.
+#[tactic(auto, using(header::specs::Turned::grains_few))]
 pub fn plan_slide(
     a: &[u8],
     lists: &[u64],
     x: usize,
     s: usize,
-    behind: Neighbour,
+    behind: Option<Neighbour>,
     length: usize,
     multiple: usize,
-) -> Plan
+) -> Result<Option<Plan>, Refusal>
     requires { Behind a.now x s behind × Long lists.now × Power multiple × (length + multiple + 1 < 2 ^ 64) }
     ensures { Slides a.now lists.now x s behind length multiple result }
 {
-    let f = neighbours::see_before(a, lists, x);
-    if !f.ok {
-        return refused();
-    }
-    if f.grains == 0 {
-        return elsewhere();
-    }
+    let Some(f) = neighbours::see_before(a, lists, x)? else {
+        return Ok(None);
+    };
     let z = x - f.grains;
     let before = neighbours::second(behind, z, f);
     let place = request::place_of(multiple, z);
-    plan_down(
-        a,
-        lists,
-        z,
-        f.grains + (s + behind.grains),
-        behind,
-        before,
-        place,
-        length,
-    )
+    let t = f.grains + (s + neighbours::grains_of(behind));
+    plan_down(a, lists, z, t, behind, before, place, length)
 }
 
 // The same, where the joined block is of t grains at z, after both neighbours left, and the payload's place in it is known.
@@ -94,25 +73,20 @@ fn plan_down(
     lists: &[u64],
     z: usize,
     t: usize,
-    behind: Neighbour,
+    behind: Option<Neighbour>,
     before: Neighbour,
     place: usize,
     length: usize,
-) -> Plan
-    requires { (z + t < grains 8 a.now) × Known a.now behind × Known a.now before × Long lists.now × (0 < place) × (place + length + 1 < 2 ^ 64) }
+) -> Result<Option<Plan>, Refusal>
+    requires { (z + t < grains 8 a.now) × Known a.now behind × Linked a.now before × Long lists.now × (0 < place) × (place + length + 1 < 2 ^ 64) }
     ensures { Downs a.now lists.now z t behind before place length result }
 {
     let keep = request::keeps_of(place, length);
     if t < keep {
-        return elsewhere();
+        return Ok(None);
     }
-    let rest = see_rest(a, lists, t, keep, behind, before);
-    if !rest.ok {
-        return refused();
-    }
-    Plan {
-        refusal: 0,
-        kind: SLID,
+    let rest = see_rest(a, lists, t, keep, behind, Some(before))?;
+    Ok(Some(Plan {
         at: z,
         grains: t,
         behind,
@@ -121,89 +95,50 @@ fn plan_down(
         keep,
         list: rest.list,
         head: rest.head,
-    }
+    }))
 }
 
 // What is left of t grains where some are kept, after both neighbours left.
+#[tactic(auto, using(header::specs::Turned::grains_few))]
 fn see_rest(
     a: &[u8],
     lists: &[u64],
     t: usize,
     keep: usize,
-    behind: Neighbour,
-    before: Neighbour,
-) -> Rest
+    behind: Option<Neighbour>,
+    before: Option<Neighbour>,
+) -> Result<Rest, Refusal>
     requires { (t < grains 8 a.now) × (keep ≤ t) × Known a.now behind × Known a.now before × Long lists.now }
     ensures { SeenRest a.now lists.now t keep behind before result }
 {
     if keep == t {
-        return Rest {
-            ok: true,
+        return Ok(Rest {
             list: 0,
             head: NONE,
-        };
+        });
     }
     let list = class::map_floor((t - keep) as u64) as usize;
     if LISTS <= list {
-        return Rest {
-            ok: false,
-            list: 0,
-            head: NONE,
-        };
+        return Err(Refusal::Damaged);
     }
-    let h = free_list::see_head(a, lists, list);
-    let head = neighbours::head_after_both(behind, before, list, h.word);
-    Rest {
-        ok: h.ok,
-        list,
-        head,
-    }
-}
-
-// A refusal, with nothing planned.
-fn refused() -> Plan
-    ensures { result.refusal ≡ 5 }
-{
-    nothing(DAMAGED, ELSEWHERE)
-}
-
-// The payload has to go elsewhere.
-fn elsewhere() -> Plan
-    ensures { Farther result }
-{
-    nothing(0, ELSEWHERE)
-}
-
-// A plan that writes nothing.
-fn nothing(refusal: u64, kind: usize) -> Plan
-    ensures { (result.refusal ≡ refusal) × (result.kind ≡ kind) }
-{
-    Plan {
-        refusal,
-        kind,
-        at: 0,
-        grains: 0,
-        behind: neighbours::no_neighbour(),
-        before: neighbours::no_neighbour(),
-        place: 0,
-        keep: 0,
-        list: 0,
-        head: NONE,
-    }
+    let h = free_list::see_head(a, lists, list)?;
+    let head = neighbours::head_after_both(behind, before, list, h);
+    Ok(Rest { list, head })
 }
 
 // ---- what is written
 
 // Both neighbours leave their lists: the bytes of the payload are carried after that.
 pub fn apply_leaving(a: &mut [u8], lists: &mut [u64], p: Plan)
-    requires { Known a.old p.behind × Known a.old p.before × Long lists.old }
-    ensures { Written a.old lists.old (both_leaving a.old p.behind p.before)
+    requires { Known a.old p.behind × Linked a.old p.before × Long lists.old }
+    ensures { Written a.old lists.old (both_leaving a.old p.behind (Some p.before))
         a.new lists.new }
 {
-    neighbours::leave_both(a, lists, p.behind, p.before);
+    neighbours::leave_both(a, lists, p.behind, Some(p.before));
 }
 
 // The block is made where the bytes are now; the payload that was at q is live there.
+#[tactic(auto, using(header::specs::Turned::grains_few))]
 pub fn apply_down(a: &mut [u8], lists: &mut [u64], live: &mut [u64], q: usize, p: Plan)
     requires { Makeable a.old p × Long lists.old × (q < 64 * length_of live.old) × (2 * p.at + p.place < 64 * length_of live.old) }
     ensures { WrittenLive a.old lists.old live.old (down_writes a.old q p)

@@ -2,5 +2,4 @@
 -- Then the empty heap: Initial.
 pub mod Stores
 pub mod Bounds
-pub mod Zeros
 pub mod Initial

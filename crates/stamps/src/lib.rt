@@ -172,31 +172,7 @@ pub fn init(lists: &mut [u64], tags: &mut [u16], regions: &mut [u64])
     requires { 1 ≤ length regions.old }
     ensures { Initial lists.old tags.old regions.old lists.new tags.new regions.new }
 {
-    clear_lists(lists);
-    clear_tags(tags);
+    lists.fill(0);
+    tags.fill(0);
     table::store(regions, 0, 0);
-}
-
-// No list is marked, and every head is 0.
-fn clear_lists(lists: &mut [u64])
-    ensures { Zeros lists.old lists.new }
-{
-    let n = lists.len();
-    let mut i = 0;
-    while i < n {
-        table::store(lists, i, 0);
-        i += 1;
-    }
-}
-
-// No grain has a tag.
-fn clear_tags(tags: &mut [u16])
-    ensures { Zeros tags.old tags.new }
-{
-    let n = tags.len();
-    let mut i = 0;
-    while i < n {
-        lent::put_tag(tags, i, 0);
-        i += 1;
-    }
 }

@@ -6,7 +6,6 @@
 ghost use Rattle.std.specs.Prelude.{◌≡◌, ◌+◌, ◌≤◌, length};
 ghost use Rattle.choice.specs.Says.{Says};
 ghost use Rattle.bits.specs.Map.{map_words, lists as list_count};
-ghost use Rattle.tables.specs.Fill.{filled};
 ghost use Rattle.tables.specs.Length.{live_length, LongEnough};
 ghost use Rattle.tables.specs.Initial.{empty_lists, Initial};
 
@@ -36,13 +35,7 @@ pub fn live_length(arena: usize) -> usize
 pub fn long_enough(arena: usize, lists: usize, live: usize) -> bool
     ensures { Says (LongEnough arena lists live) result }
 {
-    if lists < lists_length() {
-        return false;
-    }
-    if live < live_length(arena) {
-        return false;
-    }
-    true
+    lists_length() <= lists && live_length(arena) <= live
 }
 
 // ---- the empty heap
@@ -53,8 +46,7 @@ pub fn init(lists: &mut [u64], live: &mut [u64], regions: &mut [u64])
     ensures { Initial lists.old live.old regions.old lists.new live.new regions.new }
 {
     empty_lists(lists);
-    let n = live.len();
-    fill(live, 0, n, 0);
+    live.fill(0);
     table::store(regions, 0, 0);
 }
 
@@ -63,18 +55,6 @@ fn empty_lists(lists: &mut [u64])
     requires { map_words + list_count ≤ length lists.old }
     ensures { lists.new ≡ empty_lists lists.old }
 {
-    fill(lists, 0, MAP_WORDS, 0);
-    fill(lists, MAP_WORDS, LISTS, NONE);
-}
-
-// v as each of the n entries from i on.
-fn fill(t: &mut [u64], i: usize, n: usize, v: u64)
-    requires { i + n ≤ length t.old }
-    ensures { t.new ≡ filled t.old i n v }
-{
-    let mut j = 0;
-    while j < n {
-        table::store(t, i + j, v);
-        j += 1;
-    }
+    lists[..MAP_WORDS].fill(0);
+    lists[MAP_WORDS..MAP_WORDS + LISTS].fill(NONE);
 }

@@ -13,6 +13,7 @@ use Rattle.slices.proofs.Kept.{stores_lengths}
 use Rattle.header.specs.Turned.{turned}
 use Rattle.free_list.specs.Lent.{lent, Room, no_link, Leads, leads_grain}
 use Rattle.free_list.specs.Written.{WrittenLive}
+use Rattle.allocate.specs.declared.Plan.{Plan}
 use Rattle.occupy.specs.Taken.{Ready}
 use Rattle.undo.specs.declared.Was.{Was}
 use Rattle.undo.specs.declared.Links.{Links}
@@ -55,18 +56,22 @@ abbrev pub heads_of : List ℕ → ℕ → ℕ → Heads
 heads_of l k q = record { first = entry l 0; second = entry l 1; third = entry l 2; list = was_in l (map_words + k); rest = was_in l (map_words + q) }
 
 -- all of them
-abbrev pub saved_of : List ℕ → List ℕ → List ℕ → ℕ → ℕ → ℕ → ℕ → ℕ → ℕ → ℕ → ℕ → Saved
-saved_of a l v k x y s m q h d = record {
-  links = links_of a x h y;
-  block = block_of a y s d;
-  rest = header_of a (y + m);
-  heads = heads_of l k q;
-  live = was_in v ((2 * y + d) / 64);
+abbrev pub saved_of : List ℕ → List ℕ → List ℕ → Plan → Saved
+saved_of a l v p = record {
+  links = links_of a p.next p.head p.at;
+  block = block_of a p.at p.grains p.place;
+  rest = header_of a (p.at + p.keep);
+  heads = heads_of l p.list p.rest_list;
+  live = was_in v ((2 * p.at + p.place) / 64);
 }
 
+-- a plan whose rest goes to list q, before h
+abbrev pub resting : Plan → ℕ → ℕ → Plan
+resting p q h = record { list = p.list; at = p.at; grains = p.grains; next = p.next; place = p.place; keep = p.keep; rest_list = q; head = h }
+
 -- before a take: where nothing is left of the block, the list and the head of the rest are not looked at
-pub record SavedTake (a l v : List ℕ) (k x y s m q h d : ℕ) (r : Saved) : Type 0 where
-  pub words : r ≡ if_eq m s (saved_of a l v k x y s m k no_link d) (saved_of a l v k x y s m q h d)
+pub record SavedTake (a l v : List ℕ) (p : Plan) (r : Saved) : Type 0 where
+  pub words : r ≡ if_eq p.keep p.grains (saved_of a l v (resting p p.list no_link)) (saved_of a l v p)
   pub bytes : Bytes a
 
 -- ---- their places
@@ -131,40 +136,27 @@ inside_keep a l v b m o s e f g i = record {
 pub led_in : (a : List ℕ) (x y : ℕ) → Leads a x → y < grains 8 a → led_to x y < grains 8 a
 led_in a x y h k = eq_case (λ (z : ℕ). z < grains 8 a) x no_link y (turned x) (λ _. k) (λ n. leads_grain h n)
 
-module _ (a l v : List ℕ) (k x y s m q h d : ℕ) (r : Ready a l v k x y s m q h d) where
-  -- as if the rest went to the block's own list, before none
-  pub none_left : Ready a l v k x y s m k no_link d
-  none_left = record {
-    list = r.list;
-    next = r.next;
-    holds = r.holds;
-    kept = r.kept;
-    block = r.block;
-    rest = λ _. (r.list, inl refl);
-    some = r.some;
-    pad = r.pad;
-    live = r.live;
-  }
-
+module _ (a l v : List ℕ) (p : Plan) (r : Ready a l v p) where
   -- what is saved stands in the slices
-  pub saved_in : (p j : ℕ) → Room p l → Leads a j → Inside a l v (saved_of a l v k x y s m p j d)
-  saved_in p j o e =
-      let b = r.block in
-      let t = r.kept in record {
-        links = (led_in a x y r.next (omega arith), led_in a j y e (omega arith));
-        block = (omega arith, b, omega (arith, r.pad, r.some));
+  pub saved_in : (q h : ℕ) → Room q l → Leads a h → Inside a l v (saved_of a l v (resting p q h))
+  saved_in q h o e =
+      let b = r.bounds.block in
+      let t = r.bounds.kept in
+      let k = r.bounds.list in record {
+        links = (led_in a p.next p.at r.bounds.next (omega arith), led_in a h p.at e (omega arith));
+        block = (omega arith, b, omega (arith, r.bounds.pad, r.bounds.some));
         rest = omega arith;
-        heads = (omega (arith, o.room), omega (arith, r.list.known, o.room), omega (arith, o.known, o.room));
+        heads = (omega (arith, o.room), omega (arith, k.known, o.room), omega (arith, o.known, o.room));
         live = omega (arith, r.live);
       }
 
-  pub taken_in : (w : Saved) → SavedTake a l v k x y s m q h d w → Inside a l v w
-  taken_in w f = subst (Inside a l v) (sym f.words) (eq_case (Inside a l v) m s _ _
-      (λ e. saved_in k no_link r.list (inl refl))
-      (λ n. saved_in q h (r.rest n).0 (r.rest n).1))
+  pub taken_in : (w : Saved) → SavedTake a l v p w → Inside a l v w
+  taken_in w f = subst (Inside a l v) (sym f.words) (eq_case (Inside a l v) p.keep p.grains _ _
+      (λ e. saved_in p.list no_link r.bounds.list (inl refl))
+      (λ n. let s = r.bounds.rest n in saved_in p.rest_list p.head s.0 s.1))
 
   -- and in the slices as they are after any writes
-  pub written_in : (w : Saved) (t : List Write) (b n o : List ℕ) → SavedTake a l v k x y s m q h d w → WrittenLive a l v t b n o → Inside b n o w
+  pub written_in : (w : Saved) (t : List Write) (b n o : List ℕ) → SavedTake a l v p w → WrittenLive a l v t b n o → Inside b n o w
   written_in w t b n o f g =
       let e = stores_lengths 8 (lent a l v []) t in
       inside_keep a l v b n o w (ap length (g.arena []) ∙ e.arena) (ap length (g.lists []) ∙ e.lists) (ap length (g.live []) ∙ e.live) (taken_in w f)

@@ -7,9 +7,10 @@ ghost use Rattle.std.specs.Prelude.{◌≡◌, ◌+◌, ◌/◌, ◌<◌, length
 ghost use Rattle.slices.specs.Decode.{grains};
 ghost use Rattle.free_list.specs.Lent.{Room, Leads};
 ghost use Rattle.occupy.specs.Taken.{Ready};
-ghost use Rattle.undo.specs.Saved.{led_to, links_of, block_of, header_of, heads_of, saved_of, SavedTake, Inside};
+ghost use Rattle.undo.specs.Saved.{was_at, was_in, links_of, block_of, header_of, heads_of, saved_of, SavedTake, Inside};
 ghost use Rattle.undo.specs.Undone.{links_back, block_back, header_back, heads_back, Undone};
 
+use allocate::Plan;
 use bits::MAP_WORDS;
 use header::{BEFORE, NEXT, NONE, PREV, SIZE};
 
@@ -67,116 +68,64 @@ pub struct Saved {
 
 // ---- saved
 
-// What the take with these numbers will write to, as it is now.
-pub fn save_take(
-    a: &[u8],
-    lists: &[u64],
-    live: &[u64],
-    list: usize,
-    next: u64,
-    at: usize,
-    grains: usize,
-    keep: usize,
-    rest: usize,
-    head: u64,
-    place: usize,
-) -> Saved
-    requires { Ready a.now lists.now live.now list next at grains keep rest head place }
-    ensures { SavedTake a.now lists.now live.now list next at grains keep rest head place result }
+// What the take with this plan will write to, as it is now. Where nothing is left of the block, as if the rest went to the
+// block's own list, before none.
+pub fn save_take(a: &[u8], lists: &[u64], live: &[u64], p: Plan) -> Saved
+    requires { Ready a.now lists.now live.now p }
+    ensures { SavedTake a.now lists.now live.now p result }
 {
-    if keep == grains {
+    if p.keep == p.grains {
         return save(
-            a, lists, live, list, next, at, grains, keep, list, NONE, place,
+            a,
+            lists,
+            live,
+            Plan {
+                rest_list: p.list,
+                head: NONE,
+                ..p
+            },
         );
     }
-    save(
-        a, lists, live, list, next, at, grains, keep, rest, head, place,
-    )
+    save(a, lists, live, p)
 }
 
 // The same, where the list and the head of the rest are some.
-fn save(
-    a: &[u8],
-    lists: &[u64],
-    live: &[u64],
-    list: usize,
-    next: u64,
-    at: usize,
-    grains: usize,
-    keep: usize,
-    rest: usize,
-    head: u64,
-    place: usize,
-) -> Saved
-    requires { Ready a.now lists.now live.now list next at grains keep rest head place × (Room rest lists.now × Leads a.now head) }
-    ensures { result ≡ saved_of a.now lists.now live.now list next at grains keep rest head place }
+#[tactic(auto, using(header::specs::Turned::grains_few))]
+fn save(a: &[u8], lists: &[u64], live: &[u64], p: Plan) -> Saved
+    requires { Ready a.now lists.now live.now p × Room p.rest_list lists.now × Leads a.now p.head }
+    ensures { result ≡ saved_of a.now lists.now live.now p }
 {
-    let links = save_links(a, next, head, at);
-    let block = save_block(a, at, grains, place);
-    let header = save_header(a, at + keep);
-    let heads = save_heads(lists, list, rest);
-    let word = (2 * at + place) / 64;
     Saved {
-        links: links,
-        block: block,
-        rest: header,
-        heads: heads,
-        live: Was {
-            at: word,
-            word: table::fetch(live, word),
-        },
+        links: save_links(a, p.next, p.head, p.at),
+        block: save_block(a, p.at, p.grains, p.place),
+        rest: save_header(a, p.at + p.keep),
+        heads: save_heads(lists, p.list, p.rest_list),
+        live: was_in(live, (2 * p.at + p.place) / 64),
     }
 }
 
 // Where x and h lead, or at y where they are none.
+#[tactic(auto, using(crate::specs::Saved::led_in))]
 fn save_links(a: &[u8], x: u64, h: u64, y: usize) -> Links
     requires { Leads a.now x × Leads a.now h × (y < grains 8 a.now) }
     ensures { result ≡ links_of a.now x h y }
 {
-    let g = led(x, y);
-    let i = led(h, y);
     Links {
-        next: Was {
-            at: g,
-            word: header::field(a, g, PREV),
-        },
-        head: Was {
-            at: i,
-            word: header::field(a, i, PREV),
-        },
+        next: was_at(a, free_list::grain_or(x, y), PREV),
+        head: was_at(a, free_list::grain_or(h, y), PREV),
     }
-}
-
-// The grain that x leads to, and y where it is none.
-fn led(x: u64, y: usize) -> usize
-    ensures { result ≡ led_to x y }
-{
-    if x == NONE {
-        return y;
-    }
-    header::grain_of(x)
 }
 
 // Of the block of s grains at y, whose payload is at place d.
+#[tactic(auto, using(header::specs::Turned::grains_few))]
 fn save_block(a: &[u8], y: usize, s: usize, d: usize) -> Block
     requires { (y + s < grains 8 a.now) × (0 < d) × (y + d / 2 < grains 8 a.now) }
     ensures { result ≡ block_of a.now y s d }
 {
-    let end = y + s;
-    let pad = y + (d - 1) / 2;
     Block {
-        size: Was {
-            at: y,
-            word: header::field(a, y, SIZE),
-        },
-        before: Was {
-            at: end,
-            word: header::field(a, end, BEFORE),
-        },
-        pad: Was {
-            at: pad,
-            word: header::field(a, pad, PREV),
-        },
+        size: was_at(a, y, SIZE),
+        before: was_at(a, y + s, BEFORE),
+        pad: was_at(a, y + (d - 1) / 2, PREV),
     }
 }
 
@@ -198,20 +147,34 @@ fn save_heads(lists: &[u64], k: usize, q: usize) -> Heads
     requires { Room k lists.now × Room q lists.now }
     ensures { result ≡ heads_of lists.now k q }
 {
-    let i = MAP_WORDS + k;
-    let j = MAP_WORDS + q;
     Heads {
         first: table::fetch(lists, 0),
         second: table::fetch(lists, 1),
         third: table::fetch(lists, 2),
-        list: Was {
-            at: i,
-            word: table::fetch(lists, i),
-        },
-        rest: Was {
-            at: j,
-            word: table::fetch(lists, j),
-        },
+        list: was_in(lists, MAP_WORDS + k),
+        rest: was_in(lists, MAP_WORDS + q),
+    }
+}
+
+// Word f of grain g.
+fn was_at(a: &[u8], g: usize, f: usize) -> Was
+    requires { (g < grains 8 a.now) × (f < 4) }
+    ensures { result ≡ was_at a.now g f }
+{
+    Was {
+        at: g,
+        word: header::field(a, g, f),
+    }
+}
+
+// Entry i of a table.
+fn was_in(t: &[u64], i: usize) -> Was
+    requires { i < length t.now }
+    ensures { result ≡ was_in t.now i }
+{
+    Was {
+        at: i,
+        word: table::fetch(t, i),
     }
 }
 
@@ -229,6 +192,7 @@ pub fn undo_take(a: &mut [u8], lists: &mut [u64], live: &mut [u64], s: Saved)
     table::store(live, s.live.at, s.live.word);
 }
 
+#[tactic(auto, using(carve::specs::Made::put_grains))]
 fn links_back(a: &mut [u8], s: Links)
     requires { (s.next.at < grains 8 a.old) × (s.head.at < grains 8 a.old) }
     ensures { a.new ≡ links_back a.old s }
@@ -237,6 +201,7 @@ fn links_back(a: &mut [u8], s: Links)
     header::put_field(a, s.head.at, PREV, s.head.word);
 }
 
+#[tactic(auto, using(carve::specs::Made::put_grains))]
 fn block_back(a: &mut [u8], s: Block)
     requires { (s.size.at < grains 8 a.old) × (s.before.at < grains 8 a.old) × (s.pad.at < grains 8 a.old) }
     ensures { a.new ≡ block_back a.old s }
@@ -246,6 +211,7 @@ fn block_back(a: &mut [u8], s: Block)
     header::put_field(a, s.pad.at, PREV, s.pad.word);
 }
 
+#[tactic(auto, using(carve::specs::Made::put_grains))]
 fn header_back(a: &mut [u8], s: Header)
     requires { s.at < grains 8 a.old }
     ensures { a.new ≡ header_back a.old s }

@@ -1,6 +1,6 @@
 -- Words counted by number: word number i of w bytes each stands at byte w * i. Two words whose numbers differ have no
 -- byte in common, so a caller that counts in words says `i ≡ j → ⊥` and never speaks of bytes.
-use Rattle.std.specs.Prelude.{ℕ, ◌+◌, ◌*◌, ◌^◌, ◌≤◌, ◌<◌, ◌≡◌, refl, List, length, get_or}
+use Rattle.std.specs.Prelude.{ℕ, ◌+◌, ◌*◌, ◌^◌, ◌≤◌, ◌<◌, ◌≡◌, List, length, get_or}
 use Rattle.std.proofs.Common.{mul-add, mul-le-mul_left, mul-one, arith, inl, inr, ⊎_elim}
 use Rattle.choice.specs.Choice.{le?}
 use Rattle.word.specs.Number.{num, puts, Apart, puts_length, puts_byte, num_puts, puts_own, num_puts_apart}

@@ -1,160 +1,115 @@
 // The blocks of the arena's one region, read off their headers. The walk is the program's own: it starts at the first block
 // and stays inside the arena, whatever the bytes are.
-ghost use Rattle.std.specs.Prelude.{◌+◌, ◌≤◌, length};
+ghost use Rattle.std.specs.Prelude.{◌-◌, ◌≤◌, length};
+ghost use Rattle.std.specs.Iterator.{at_most};
 
-use crate::{line, rows};
+use crate::threes::Threes;
+use std::alloc::{AllocError, Global};
+use std::fmt;
 
-const GRAIN: u64 = 32;
+const GRAIN: usize = 32;
 
 // The bytes that a character of the bar stands for, and its characters.
 const CELL: usize = 64;
 
 const CELLS: usize = 52;
 
-// ---- a header
+// An offset and a size.
+#[derive(Clone, Copy, Debug, PartialEq, Eq)]
+pub struct Span(pub usize, pub usize);
 
-// The eight bytes at an offset as one number, or 0 where they do not all lie in the arena.
-fn word(arena: &[u8], o: usize) -> u64 {
-    if arena.len() < 8 {
-        return 0;
+impl Span {
+    fn covers(self, o: usize) -> bool {
+        self.0 <= o && o - self.0 < self.1
     }
-    if arena.len() - 8 < o {
-        return 0;
-    }
-    word::get(arena, o)
 }
 
-// The size of the block at o, or 0 where that is the sentinel or would reach beyond the arena. Bit 0 of the word says used,
-// bit 1 sentinel.
-fn size(arena: &[u8], o: usize) -> usize
-    requires { o ≤ length arena.now }
-    ensures { o + result ≤ length arena.now }
-{
-    let w = word(arena, o);
-    if w / 2 % 2 == 1 {
-        return 0;
+impl fmt::Display for Span {
+    fn fmt<W: fmt::Write>(&self, f: &mut fmt::Formatter<W>) -> fmt::Result {
+        let offset = Threes(self.0);
+        let size = Threes(self.1);
+        write!(f, "{offset}:{size}")
     }
-    let s = (w - w % GRAIN) as usize;
-    if arena.len() - o < s {
-        return 0;
-    }
-    s
 }
 
-fn is_used(arena: &[u8], o: usize) -> bool {
-    word(arena, o) % 2 == 1
+// ---- the walk
+
+#[derive(Clone, Copy, Debug, PartialEq, Eq)]
+pub struct Block {
+    pub span: Span,
+    pub is_used: bool,
 }
 
-// ---- the free blocks
+// The blocks from an offset on.
+#[derive(Clone, Copy)]
+pub struct Walk<'a> {
+    arena: &'a [u8],
+    at: usize,
+}
 
-// The first free block from the block at o on, or the arena's length where there is none.
-fn next_free(arena: &[u8], o: usize) -> usize
-    requires { o ≤ length arena.now }
-    ensures { (o ≤ result) × (result ≤ length arena.now) }
-{
-    let mut at = o;
-    while at < arena.len() {
-        let s = size(arena, at);
-        if s == 0 {
-            return arena.len();
+impl<'a> Walk<'a> {
+    pub fn new(arena: &'a [u8]) -> Walk<'a> {
+        Walk { arena, at: 0 }
+    }
+}
+
+impl<'a> Iterator for Walk<'a> {
+    type Item = Block;
+
+    ghost remaining = { λ walk. at_most (length walk.arena.now - walk.at) };
+
+    // The block there, unless that is the sentinel or would reach beyond the arena. Bit 0 of its header's first word says
+    // used, bit 1 sentinel.
+    fn next(&mut self) -> Option<Block> {
+        let offset = self.at;
+        let word = word(self.arena, offset)?;
+        let size = word - word % GRAIN;
+        let end = offset.checked_add(size)?;
+        if size == 0 || word / 2 % 2 == 1 || self.arena.len() < end {
+            return None;
         }
-        if !is_used(arena, at) {
-            return at;
-        }
-        at += s;
+        self.at = end;
+        Some(Block {
+            span: Span(offset, size),
+            is_used: word % 2 == 1,
+        })
     }
-    at
 }
 
-// Puts the free blocks, each as offset:size.
-pub fn put_free(text: &mut [u8], at: usize, arena: &[u8]) -> usize {
-    let mut to = at;
-    let mut o = next_free(arena, 0);
-    while o < arena.len() {
-        let s = size(arena, o);
-        if s == 0 {
-            return to;
-        }
-        to = rows::put_block(text, to, o, s);
-        o = next_free(arena, o + s);
-    }
-    to
+// The eight bytes at an offset as one number, where they all lie in the arena.
+fn word(arena: &[u8], o: usize) -> Option<usize> {
+    let bytes = arena.get(o..)?.first_chunk()?;
+    Some(usize::from_le_bytes(*bytes))
 }
 
-// 1 where the free blocks are these.
-pub fn is_free(arena: &[u8], free: rows::Free) -> u64
-    ensures { result ≤ 1 }
-{
-    let mut o = next_free(arena, 0);
-    let mut j = 0;
-    while j < rows::MOST_FREE {
-        let s = size(arena, o);
-        if s != free.sizes[j] {
-            return 0;
-        }
-        if !is_at(o, s, free.offsets[j]) {
-            return 0;
-        }
-        o = next_free(arena, o + s);
-        j += 1;
+// ---- as text
+
+// The blocks, each with a space behind it.
+pub fn listed(alloc: Global, spans: &[Span]) -> Result<String, AllocError> {
+    let mut text = String::new(alloc);
+    for span in spans {
+        write!(text, "{span} ")?;
     }
-    if o != arena.len() {
-        return 0;
-    }
-    1
+    Ok(text)
 }
 
-// Whether a block of size s at o stands there; where it is none there is nothing to ask.
-fn is_at(o: usize, s: usize, there: usize) -> bool {
-    if s == 0 {
-        return true;
-    }
-    o == there
-}
-
-// ---- the bar
-
-// Puts a character for each cell of the arena's first bytes.
-pub fn put_bar(text: &mut [u8], at: usize, arena: &[u8]) -> usize {
-    let mut to = at;
-    let mut i = 0;
-    while i < CELLS {
-        to = line::put(text, to, cell(arena, CELL * i));
-        i += 1;
-    }
-    to
+// A character for each cell of the arena's first bytes.
+pub fn bar(alloc: Global, arena: &[u8]) -> Result<String, AllocError> {
+    (0..CELLS).map(|i| cell(arena, CELL * i)).collect(alloc)
 }
 
 // The character of the two grains at o.
-fn cell(arena: &[u8], o: usize) -> u8
+fn cell(arena: &[u8], o: usize) -> char
     requires { o ≤ 4096 }
 {
-    let first = is_covered(arena, o);
-    let second = is_covered(arena, o + GRAIN as usize);
-    if first {
-        if second {
-            return b'#';
-        }
-        return b'+';
+    match (is_covered(arena, o), is_covered(arena, o + GRAIN)) {
+        (true, true) => '#',
+        (false, false) => '.',
+        _ => '+',
     }
-    if second {
-        return b'+';
-    }
-    b'.'
 }
 
 // Whether the byte at o lies in a block that is used.
 fn is_covered(arena: &[u8], o: usize) -> bool {
-    let mut at = 0;
-    while at < arena.len() {
-        let s = size(arena, at);
-        if s == 0 {
-            return false;
-        }
-        if o < at + s {
-            return is_used(arena, at);
-        }
-        at += s;
-    }
-    false
+    Walk::new(arena).any(|block| block.is_used && block.span.covers(o))
 }

@@ -1,163 +1,265 @@
 // The rows of the worked run of docs/HEAP.md: its calls, with the answers and the free blocks that it has.
-use crate::line;
+use crate::blocks::Span;
+use crate::threes::Threes;
+use heap::Heap;
+use refusal::Refusal;
+use std::fmt;
 
-// A refused call's answer.
-pub const NONE: usize = 18446744073709551615;
-
-// The most free blocks of a row.
-pub const MOST_FREE: usize = 3;
-
-// A call: a region's start and length; a payload's name, size and alignment; its name, offset and alignment; its name,
-// offset, new size and alignment.
-#[derive(Clone, Copy)]
+// A payload has a name.
+#[derive(Clone, Copy, Debug, PartialEq, Eq)]
 pub enum Call {
-    Give(usize, usize),
-    Take(u8, usize, usize),
-    Return(u8, usize, usize),
-    Resize(u8, usize, usize, usize),
+    Give {
+        start: usize,
+        length: usize,
+    },
+    Take {
+        name: char,
+        size: usize,
+        align: usize,
+    },
+    Return {
+        name: char,
+        payload: usize,
+        align: usize,
+    },
+    Resize {
+        name: char,
+        payload: usize,
+        size: usize,
+        align: usize,
+    },
 }
 
-// The free blocks. One of size 0 is none.
-#[derive(Clone, Copy)]
-pub struct Free {
-    pub offsets: [usize; 3],
-    pub sizes: [usize; 3],
+impl Call {
+    // Makes the call.
+    pub fn make(self, heap: &mut Heap) -> Result<Answer, Refusal> {
+        match self {
+            Call::Give { start, length } => {
+                heap.insert_free_block(start, length).map(Answer::Number)
+            }
+            Call::Take { size, align, .. } => heap.allocate(size, align).map(Answer::Number),
+            Call::Return { payload, align, .. } => {
+                heap.deallocate(payload, align).map(|()| Answer::Done)
+            }
+            Call::Resize {
+                payload,
+                size,
+                align,
+                ..
+            } => heap.reallocate(payload, size, align).map(Answer::Number),
+        }
+    }
 }
 
-// A call, its answer, and the free blocks after it. A return's answer is 0.
-#[derive(Clone, Copy)]
+impl fmt::Display for Call {
+    fn fmt<W: fmt::Write>(&self, f: &mut fmt::Formatter<W>) -> fmt::Result {
+        match *self {
+            Call::Give { start, length } => write!(f, "give {}, {}", Threes(start), Threes(length)),
+            Call::Take { name, size, align } => {
+                write!(f, "take {name} {}, align {}", Threes(size), Threes(align))
+            }
+            Call::Return { name, .. } => write!(f, "return {name}"),
+            Call::Resize { name, size, .. } => write!(f, "resize {name} to {}", Threes(size)),
+        }
+    }
+}
+
+// What a call answers: a region's bytes or a payload's offset, or that a return is done.
+#[derive(Clone, Copy, Debug, PartialEq, Eq)]
+pub enum Answer {
+    Number(usize),
+    Done,
+}
+
+impl fmt::Display for Answer {
+    fn fmt<W: fmt::Write>(&self, f: &mut fmt::Formatter<W>) -> fmt::Result {
+        match *self {
+            Answer::Number(n) => write!(f, "{}", Threes(n)),
+            Answer::Done => f.write_str("done"),
+        }
+    }
+}
+
+// A call, its answer, and the free blocks after it.
+#[derive(Clone, Copy, Debug)]
 pub struct Row {
     pub call: Call,
-    pub answer: usize,
-    pub free: Free,
+    pub answer: Result<Answer, Refusal>,
+    pub free: &'static [Span],
 }
 
-// Row i.
-pub fn row_at(i: u64) -> Row {
-    match i {
-        0 => made(Call::Give(0, 65536), 65536, one(0, 65504)),
-        1 => made(Call::Take(b'A', 100, 8), 16, one(128, 65376)),
-        2 => made(Call::Take(b'B', 1000, 8), 144, one(1152, 64352)),
-        3 => made(Call::Take(b'C', 24, 64), 1216, one(1248, 64256)),
-        4 => made(Call::Take(b'D', 0, 1), 1264, one(1280, 64224)),
-        5 => made(Call::Take(b'E', 2000, 16), 1296, one(3296, 62208)),
-        6 => made(Call::Return(b'B', 144, 8), 0, two(128, 1024, 3296, 62208)),
-        7 => made(Call::Take(b'F', 900, 8), 144, two(1056, 96, 3296, 62208)),
-        8 => made(
-            Call::Return(b'A', 16, 8),
-            0,
-            three(0, 128, 1056, 96, 3296, 62208),
-        ),
-        9 => made(Call::Return(b'F', 144, 8), 0, two(0, 1152, 3296, 62208)),
-        10 => made(Call::Take(b'J', 1008, 8), 16, two(1024, 128, 3296, 62208)),
-        11 => made(
-            Call::Resize(b'E', 1296, 3000, 16),
-            1296,
-            two(1024, 128, 4320, 61184),
-        ),
-        12 => made(Call::Return(b'C', 1216, 64), 0, two(1024, 224, 4320, 61184)),
-        13 => made(
-            Call::Resize(b'D', 1264, 40, 1),
-            1040,
-            two(1088, 192, 4320, 61184),
-        ),
-        14 => made(
-            Call::Return(b'J', 16, 8),
-            0,
-            three(0, 1024, 1088, 192, 4320, 61184),
-        ),
-        15 => made(
-            Call::Resize(b'E', 1296, 20000, 16),
-            1296,
-            three(0, 1024, 1088, 192, 21312, 44192),
-        ),
-        16 => made(
-            Call::Take(b'K', 65000, 8),
-            NONE,
-            three(0, 1024, 1088, 192, 21312, 44192),
-        ),
-        17 => made(Call::Return(b'D', 1040, 1), 0, two(0, 1280, 21312, 44192)),
-        _ => made(Call::Return(b'E', 1296, 16), 0, one(0, 65504)),
-    }
-}
-
-fn made(call: Call, answer: usize, free: Free) -> Row {
-    Row { call, answer, free }
-}
-
-fn one(o: usize, s: usize) -> Free {
-    three(o, s, 0, 0, 0, 0)
-}
-
-fn two(o: usize, s: usize, p: usize, t: usize) -> Free {
-    three(o, s, p, t, 0, 0)
-}
-
-fn three(o: usize, s: usize, p: usize, t: usize, q: usize, u: usize) -> Free {
-    Free {
-        offsets: [o, p, q],
-        sizes: [s, t, u],
-    }
-}
-
-// ---- as text
-
-pub fn put_call(text: &mut [u8], at: usize, call: Call) -> usize {
-    match call {
-        Call::Give(start, length) => {
-            let said = line::put_text(text, at, b"give ");
-            put_pair(text, said, start, b", ", length)
-        }
-        Call::Take(name, size, align) => {
-            let named = put_named(text, at, b"take ", name);
-            let parted = line::put(text, named, b' ');
-            put_pair(text, parted, size, b", align ", align)
-        }
-        Call::Return(name, _, _) => put_named(text, at, b"return ", name),
-        Call::Resize(name, _, size, _) => {
-            let named = put_named(text, at, b"resize ", name);
-            let parted = line::put_text(text, named, b" to ");
-            line::put_number(text, parted, size as u64)
-        }
-    }
-}
-
-// A call and its payload's name.
-fn put_named(text: &mut [u8], at: usize, call: &[u8], name: u8) -> usize {
-    let said = line::put_text(text, at, call);
-    line::put(text, said, name)
-}
-
-// Two numbers, with something between them.
-fn put_pair(text: &mut [u8], at: usize, first: usize, between: &[u8], second: usize) -> usize {
-    let begun = line::put_number(text, at, first as u64);
-    let parted = line::put_text(text, begun, between);
-    line::put_number(text, parted, second as u64)
-}
-
-// An answer to a call. That of a return is that it is done.
-pub fn put_answer(text: &mut [u8], at: usize, call: Call, answer: usize) -> usize {
-    match call {
-        Call::Return(_, _, _) => line::put_text(text, at, b"done"),
-        _ => line::put_number(text, at, answer as u64),
-    }
-}
-
-pub fn put_free(text: &mut [u8], at: usize, free: Free) -> usize {
-    let mut to = at;
-    let mut j = 0;
-    while j < MOST_FREE {
-        to = put_block(text, to, free.offsets[j], free.sizes[j]);
-        j += 1;
-    }
-    to
-}
-
-// A block as offset:size, with a space behind it; a block of size 0 is none.
-pub fn put_block(text: &mut [u8], at: usize, offset: usize, size: usize) -> usize {
-    if size == 0 {
-        return at;
-    }
-    let whole = put_pair(text, at, offset, b":", size);
-    line::put(text, whole, b' ')
-}
+pub const ROWS: [Row; 19] = [
+    Row {
+        call: Call::Give {
+            start: 0,
+            length: 65536,
+        },
+        answer: Ok(Answer::Number(65536)),
+        free: &[Span(0, 65504)],
+    },
+    Row {
+        call: Call::Take {
+            name: 'A',
+            size: 100,
+            align: 8,
+        },
+        answer: Ok(Answer::Number(16)),
+        free: &[Span(128, 65376)],
+    },
+    Row {
+        call: Call::Take {
+            name: 'B',
+            size: 1000,
+            align: 8,
+        },
+        answer: Ok(Answer::Number(144)),
+        free: &[Span(1152, 64352)],
+    },
+    Row {
+        call: Call::Take {
+            name: 'C',
+            size: 24,
+            align: 64,
+        },
+        answer: Ok(Answer::Number(1216)),
+        free: &[Span(1248, 64256)],
+    },
+    Row {
+        call: Call::Take {
+            name: 'D',
+            size: 0,
+            align: 1,
+        },
+        answer: Ok(Answer::Number(1264)),
+        free: &[Span(1280, 64224)],
+    },
+    Row {
+        call: Call::Take {
+            name: 'E',
+            size: 2000,
+            align: 16,
+        },
+        answer: Ok(Answer::Number(1296)),
+        free: &[Span(3296, 62208)],
+    },
+    Row {
+        call: Call::Return {
+            name: 'B',
+            payload: 144,
+            align: 8,
+        },
+        answer: Ok(Answer::Done),
+        free: &[Span(128, 1024), Span(3296, 62208)],
+    },
+    Row {
+        call: Call::Take {
+            name: 'F',
+            size: 900,
+            align: 8,
+        },
+        answer: Ok(Answer::Number(144)),
+        free: &[Span(1056, 96), Span(3296, 62208)],
+    },
+    Row {
+        call: Call::Return {
+            name: 'A',
+            payload: 16,
+            align: 8,
+        },
+        answer: Ok(Answer::Done),
+        free: &[Span(0, 128), Span(1056, 96), Span(3296, 62208)],
+    },
+    Row {
+        call: Call::Return {
+            name: 'F',
+            payload: 144,
+            align: 8,
+        },
+        answer: Ok(Answer::Done),
+        free: &[Span(0, 1152), Span(3296, 62208)],
+    },
+    Row {
+        call: Call::Take {
+            name: 'J',
+            size: 1008,
+            align: 8,
+        },
+        answer: Ok(Answer::Number(16)),
+        free: &[Span(1024, 128), Span(3296, 62208)],
+    },
+    Row {
+        call: Call::Resize {
+            name: 'E',
+            payload: 1296,
+            size: 3000,
+            align: 16,
+        },
+        answer: Ok(Answer::Number(1296)),
+        free: &[Span(1024, 128), Span(4320, 61184)],
+    },
+    Row {
+        call: Call::Return {
+            name: 'C',
+            payload: 1216,
+            align: 64,
+        },
+        answer: Ok(Answer::Done),
+        free: &[Span(1024, 224), Span(4320, 61184)],
+    },
+    Row {
+        call: Call::Resize {
+            name: 'D',
+            payload: 1264,
+            size: 40,
+            align: 1,
+        },
+        answer: Ok(Answer::Number(1040)),
+        free: &[Span(1088, 192), Span(4320, 61184)],
+    },
+    Row {
+        call: Call::Return {
+            name: 'J',
+            payload: 16,
+            align: 8,
+        },
+        answer: Ok(Answer::Done),
+        free: &[Span(0, 1024), Span(1088, 192), Span(4320, 61184)],
+    },
+    Row {
+        call: Call::Resize {
+            name: 'E',
+            payload: 1296,
+            size: 20000,
+            align: 16,
+        },
+        answer: Ok(Answer::Number(1296)),
+        free: &[Span(0, 1024), Span(1088, 192), Span(21312, 44192)],
+    },
+    Row {
+        call: Call::Take {
+            name: 'K',
+            size: 65000,
+            align: 8,
+        },
+        answer: Err(Refusal::NoList),
+        free: &[Span(0, 1024), Span(1088, 192), Span(21312, 44192)],
+    },
+    Row {
+        call: Call::Return {
+            name: 'D',
+            payload: 1040,
+            align: 1,
+        },
+        answer: Ok(Answer::Done),
+        free: &[Span(0, 1280), Span(21312, 44192)],
+    },
+    Row {
+        call: Call::Return {
+            name: 'E',
+            payload: 1296,
+            align: 16,
+        },
+        answer: Ok(Answer::Done),
+        free: &[Span(0, 65504)],
+    },
+];

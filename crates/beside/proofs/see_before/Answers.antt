@@ -8,17 +8,17 @@ use Rattle.beside.proofs.see_before.Goals as goal
 
 pub returns-then-x-eq0 : goal.returns-then-x-eq0
 returns-then-x-eq0 c g =
-    before_first c.args.a.now c.args.lists.now c.args.tags.now g c.args.x c.if-x-eq0.true
+    before_first c.args.heap.now.tagged.arena.now c.args.heap.now.lists.now c.args.heap.now.tagged.tags.now g c.args.x c.if-x-eq0.true
 
 pub returns-then-not-has_free : goal.returns-then-not-has_free
 returns-then-not-has_free c g =
-    before_used c.args.a.now c.args.lists.now c.args.tags.now g c.args.x c.if-x-eq0.false c.tag-tag.result c.tag-tag.ensures (says_no _ c.has_free.result c.has_free.ensures c.if-not-has_free.true)
+    before_used c.args.heap.now.tagged.arena.now c.args.heap.now.lists.now c.args.heap.now.tagged.tags.now g c.args.x c.if-x-eq0.false c.tag-tag.result c.tag-tag.ensures (says_no _ c.has_free.result c.has_free.ensures c.if-not-has_free.true)
 
 pub free_before-requires : goal.free_before-requires
 free_before-requires c =
-    (c.requires.0, c.requires.1, omega (arith, c.count.ensures, count_fits c.tag-tag.result (omega arith)))
+    (c.requires, omega (arith, c.count.ensures, count_fits c.tag-tag.result (omega arith)))
 
 pub returns : goal.returns
 returns c g =
-    before_free c.args.a.now c.args.lists.now c.args.tags.now g c.args.x c.if-x-eq0.false c.tag-tag.result c.tag-tag.ensures (says_yes _ c.has_free.result c.has_free.ensures c.if-not-has_free.false) c.count.result c.count.ensures
+    before_free c.args.heap.now.tagged.arena.now c.args.heap.now.lists.now c.args.heap.now.tagged.tags.now g c.args.x c.if-x-eq0.false c.tag-tag.result c.tag-tag.ensures (says_yes _ c.has_free.result c.has_free.ensures c.if-not-has_free.false) c.count.result c.count.ensures
     ∙ c.free_before.ensures g

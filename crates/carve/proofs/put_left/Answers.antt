@@ -1,7 +1,5 @@
 -- `carve::put_left`: a whole block, or one pushed and split off.
-use native.Mathlib.Omega.{arith}
 use Rattle.slices.proofs.Decode.{grains_keep}
-use Rattle.header.specs.Turned.{grains_few}
 use Rattle.free_list.specs.Lent.{link}
 use Rattle.free_list.specs.Written.{written_length}
 use Rattle.carve.specs.Made.{left_whole, left_split}
@@ -10,15 +8,6 @@ use Rattle.carve.proofs.put_left.Goals as goal
 pub returns-then-m-t : goal.returns-then-m-t
 returns-then-m-t c =
     left_whole c.args.a.now _ c.args.lists.now c.args.x c.args.t c.args.m c.args.q (link c.args.a.now c.args.h) c.if-m-t.true c.put_whole.ensures
-
-pub overflow_add-x : goal.overflow_add-x
-overflow_add-x c =
-    omega (arith, c.requires.0, c.requires.1, grains_few c.args.a.now c.well_formed.0.0)
-
-pub push-requires : goal.push-requires
-push-requires c =
-    let n = c.requires.2 c.if-m-t.false in
-    (omega (arith, c.requires.0, c.requires.1), n.0, n.1)
 
 pub put_split-requires : goal.put_split-requires
 put_split-requires c =

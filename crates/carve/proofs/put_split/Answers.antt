@@ -1,40 +1,11 @@
 -- `carve::put_split`: the four words, one after the other.
 use native.Mathlib.Omega.{arith}
-use Rattle.header.specs.Turned.{grains_few}
 use Rattle.carve.specs.Made.{put_grains, split_made}
 use Rattle.carve.proofs.put_split.Goals as goal
-
-pub bytes_of-requires : goal.bytes_of-requires
-bytes_of-requires c =
-    omega (arith, c.requires, grains_few c.args.a.now c.well_formed.0.0)
-
-pub overflow_add-x : goal.overflow_add-x
-overflow_add-x c =
-    omega (arith, c.requires, grains_few c.args.a.now c.well_formed.0.0)
-
-pub bytes_of-requires-2 : goal.bytes_of-requires-2
-bytes_of-requires-2 c =
-    omega (arith, c.requires, grains_few c.args.a.now c.well_formed.0.0)
-
-pub put_field-requires-2 : goal.put_field-requires-2
-put_field-requires-2 c =
-    (omega (arith, c.requires, put_grains _ _ _ _ c.put_field.ensures), omega arith)
-
-pub overflow_add-x-2 : goal.overflow_add-x-2
-overflow_add-x-2 c =
-    omega (arith, c.requires, grains_few c.args.a.now c.well_formed.0.0)
-
-pub bytes_of-requires-3 : goal.bytes_of-requires-3
-bytes_of-requires-3 c =
-    omega (arith, c.requires, grains_few c.args.a.now c.well_formed.0.0)
 
 pub put_field-requires-3 : goal.put_field-requires-3
 put_field-requires-3 c =
     (omega (arith, c.requires, put_grains _ _ _ _ c.put_field.ensures, put_grains _ _ _ _ c.put_field-2.ensures), omega arith)
-
-pub bytes_of-requires-4 : goal.bytes_of-requires-4
-bytes_of-requires-4 c =
-    omega (arith, c.requires, grains_few c.args.a.now c.well_formed.0.0)
 
 pub put_field-requires-4 : goal.put_field-requires-4
 put_field-requires-4 c =

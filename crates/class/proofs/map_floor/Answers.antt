@@ -19,9 +19,6 @@ overflow_shr-result c = omega (arith, fits (goal.at.overflow_shr-result c).After
 pub overflow_add-result : goal.overflow_add-result
 overflow_add-result c = omega (arith, fits (goal.at.overflow_add-result c).After-top_bit-f)
 
-pub overflow_sub-result : goal.overflow_sub-result
-overflow_sub-result c = omega (arith, fits (goal.at.overflow_sub-result c).After-top_bit-f)
-
 pub returns : goal.returns
 unfolding list_of
 returns c = rw c.top_bit-f.ensures

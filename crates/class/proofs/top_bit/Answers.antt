@@ -1,13 +1,11 @@
--- `class::top_bit` meets its contract: 63 less the zeros above the highest set bit is the bit's place. Assumes nothing.
+-- `class::top_bit` meets its contract: the library's logarithm lies between the same two powers. Assumes nothing.
 use native.Mathlib.Omega.{arith}
-use Rattle.class.proofs.Log.{log_code}
+use Rattle.std.proofs.Common.{add-one}
+use mathlib.Core.Path.{sym, ◌∙◌}
+use Rattle.class.proofs.Log.{log_is}
 use Rattle.class.proofs.top_bit.Goals as goal
 
-pub overflow_cast-result : goal.overflow_cast-result
-overflow_cast-result c = omega (arith, log_code c.args.x c.requires c.ranges.x.fits)
-
-pub overflow_sub-result : goal.overflow_sub-result
-overflow_sub-result c = (log_code c.args.x c.requires c.ranges.x.fits).0
-
 pub returns : goal.returns
-returns c = (log_code c.args.x c.requires c.ranges.x.fits).1
+returns c =
+    c.from.ensures
+    ∙ sym (log_is c.args.x c.ilog2.result c.ilog2.ensures.power_le (rw add-one (omega (arith, c.ilog2.ensures.next_power_gt))))

@@ -1,9 +1,6 @@
-use Prim.Native.Nat.{◌*◌, ◌-◌, ◌≤◌}
+use Prim.Native.Nat.{◌*◌}
 use Rattle.copy.specs.Moved.{Moved}
 use Rattle.copy.proofs.grains_ascending.Given as goal
 
 abbrev pub invariant-loop-i : goal.invariant-loop-i
-invariant-loop-i l = (l.i ≤ l.n) × Moved l.initial.a l.from l.to (32 * l.i) l.a
-
-abbrev pub decreases-loop-i : goal.decreases-loop-i
-decreases-loop-i l = l.n - l.i
+invariant-loop-i l = Moved l.initial.a l.from l.to (32 * l.i) l.a

@@ -1,9 +1,6 @@
-use Prim.Native.Nat.{◌+◌, ◌*◌, ◌-◌, ◌≤◌}
+use Prim.Native.Nat.{◌+◌, ◌*◌, ◌-◌}
 use Rattle.copy.specs.Moved.{Moved}
 use Rattle.copy.proofs.grains_descending.Given as goal
 
-abbrev pub invariant-loop-left : goal.invariant-loop-left
-invariant-loop-left l = (l.left ≤ l.n) × Moved l.initial.a (l.from + 32 * l.left) (l.to + 32 * l.left) (32 * (l.n - l.left)) l.a
-
-abbrev pub decreases-loop-left : goal.decreases-loop-left
-decreases-loop-left l = l.left
+abbrev pub invariant-loop-i : goal.invariant-loop-i
+invariant-loop-i l = Moved l.initial.a (l.from + 32 * l.i) (l.to + 32 * l.i) (32 * (l.n - l.i)) l.a

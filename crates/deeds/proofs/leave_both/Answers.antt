@@ -9,16 +9,16 @@ pub leave_beside-requires : goal.leave_beside-requires
 leave_beside-requires c =
     let u = leave_steps c.args.after (c.args.x + c.args.s) in
     let v = leave_steps c.args.before (c.args.x - c.args.before) in
-    (run_left u v c.args.a.now c.args.lists.now [] [] c.requires.0, c.requires.2)
+    (run_left u v c.args.links.now.arena.now c.args.links.now.lists.now [] [] c.requires.0, c.requires.2)
 
 pub leave_beside-requires-2 : goal.leave_beside-requires-2
 leave_beside-requires-2 c =
     let u = leave_steps c.args.after (c.args.x + c.args.s) in
     let v = leave_steps c.args.before (c.args.x - c.args.before) in
-    (run_right u v c.args.a.now c.args.lists.now c.leave_beside.new.a c.leave_beside.new.lists c.requires.0 c.leave_beside.ensures, c.requires.1)
+    (run_right u v c.args.links.now.arena.now c.args.links.now.lists.now c.leave_beside.new.links.arena.now c.leave_beside.new.links.lists.now c.requires.0 c.leave_beside.ensures.runs, c.requires.1)
 
-pub returns : goal.returns
-returns c =
+pub returns-clause-runs : goal.returns-clause-runs
+returns-clause-runs c =
     let u = leave_steps c.args.after (c.args.x + c.args.s) in
     let v = leave_steps c.args.before (c.args.x - c.args.before) in
-    runs_more u v c.args.a.now c.args.lists.now c.leave_beside.new.a c.leave_beside.new.lists c.requires.0 c.leave_beside.ensures c.leave_beside-2.new.a c.leave_beside-2.new.lists c.leave_beside-2.ensures
+    runs_more u v c.args.links.now.arena.now c.args.links.now.lists.now c.leave_beside.new.links.arena.now c.leave_beside.new.links.lists.now c.requires.0 c.leave_beside.ensures.runs c.leave_beside-2.new.links.arena.now c.leave_beside-2.new.links.lists.now c.leave_beside-2.ensures.runs

@@ -1,5 +1,4 @@
 -- `entries::put_before`: the three words, one after the other.
-use mathlib.Core.Path.{◌∙◌}
 use Rattle.lent.proofs.Kept.{prev_grains}
 use Rattle.entries.proofs.put_before.Goals as goal
 
@@ -10,7 +9,3 @@ put_prev-requires-2 c =
 pub put_next-requires : goal.put_next-requires
 put_next-requires c =
     rw (c.put_prev-2.ensures, c.put_prev.ensures) (prev_grains _ c.args.y c.args.y c.args.y (prev_grains c.args.a.now c.args.h c.args.y c.args.y c.requires.0))
-
-pub returns : goal.returns
-returns c =
-    c.put_next.ensures ∙ rw (c.put_prev-2.ensures, c.put_prev.ensures)

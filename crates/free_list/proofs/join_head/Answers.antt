@@ -1,21 +1,10 @@
 -- `free_list::join_head`: the mark, or the link of the old head.
-use native.Mathlib.Omega.{arith}
-use Rattle.header.specs.Turned.{grains_few}
-use Rattle.free_list.specs.Lent.{leads_grain}
 use Rattle.free_list.specs.Moves.{head_none, head_some}
 use Rattle.free_list.proofs.join_head.Goals as goal
 
 pub returns-then-h-eq-NONE : goal.returns-then-h-eq-NONE
 returns-then-h-eq-NONE c =
     head_none c.args.a.now c.args.lists.now c.args.k c.args.y c.args.h c.well_formed.0.0 c.requires.0 _ c.if-h-eq-NONE.true c.mark.ensures
-
-pub bytes_of-requires : goal.bytes_of-requires
-bytes_of-requires c =
-    omega (arith, grains_few c.args.a.now c.well_formed.0.0)
-
-pub put_field-requires : goal.put_field-requires
-put_field-requires c =
-    (rw c.grain_of.ensures (leads_grain c.requires.2 c.if-h-eq-NONE.false), omega arith)
 
 pub returns : goal.returns
 returns c =

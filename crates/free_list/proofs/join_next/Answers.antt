@@ -1,16 +1,10 @@
 -- `free_list::join_next`: the head's word, or the link of the grain before.
-use native.Mathlib.Omega.{arith}
-use Rattle.free_list.specs.Lent.{leads_grain}
 use Rattle.free_list.specs.Moves.{next_head, next_grain}
 use Rattle.free_list.proofs.join_next.Goals as goal
 
 pub returns-then-p-eq-NONE : goal.returns-then-p-eq-NONE
 returns-then-p-eq-NONE c =
     next_head c.args.a.now c.args.lists.now c.args.k c.args.x c.args.p c.well_formed.0.0 c.requires.1 c.requires.2 _ c.if-p-eq-NONE.true c.store.ensures
-
-pub put_field-requires : goal.put_field-requires
-put_field-requires c =
-    (rw c.grain_of.ensures (leads_grain c.requires.2 c.if-p-eq-NONE.false), omega arith)
 
 pub returns : goal.returns
 returns c =

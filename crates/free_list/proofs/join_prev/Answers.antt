@@ -1,12 +1,6 @@
 -- `free_list::join_prev`: the link of the grain behind, or the mark, or nothing.
-use native.Mathlib.Omega.{arith}
-use Rattle.free_list.specs.Lent.{leads_grain}
 use Rattle.free_list.specs.Moves.{prev_grain, prev_last, prev_only}
 use Rattle.free_list.proofs.join_prev.Goals as goal
-
-pub put_field-requires : goal.put_field-requires
-put_field-requires c =
-    (rw c.grain_of.ensures (leads_grain c.requires.1 c.if-x-ne-NONE.true), omega arith)
 
 pub returns-then-x-ne-NONE : goal.returns-then-x-ne-NONE
 returns-then-x-ne-NONE c =

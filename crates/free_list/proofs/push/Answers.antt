@@ -1,7 +1,5 @@
 -- `free_list::push`: the writes of the three parts, one after the other.
-use native.Mathlib.Omega.{arith}
 use Rattle.slices.proofs.Decode.{grains_keep}
-use Rattle.header.specs.Turned.{grains_few}
 use Rattle.free_list.specs.Written.{written_length}
 use Rattle.free_list.specs.Moves.{pushed}
 use Rattle.free_list.proofs.push.Goals as goal
@@ -9,10 +7,6 @@ use Rattle.free_list.proofs.push.Goals as goal
 pub put_entry-requires : goal.put_entry-requires
 put_entry-requires c =
     rw (grains_keep 8 c.args.a.now _ (written_length c.join_head.ensures)) c.requires.0
-
-pub bytes_of-requires : goal.bytes_of-requires
-bytes_of-requires c =
-    omega (arith, c.requires.0, grains_few c.args.a.now c.well_formed.0.0)
 
 pub returns : goal.returns
 returns c =

@@ -1,12 +1,8 @@
 -- `free_list::stands_behind`: each return is one law of the block's place.
 use native.Mathlib.Omega.{arith}
 use borrow.Author.Tests.{not-true, not-false}
-use Rattle.header.specs.Turned.{grains_few}
 use Rattle.free_list.specs.Place.{placed_nowhere, placed_apart, placed_once}
 use Rattle.free_list.proofs.stands_behind.Goals as goal
-
-pub bytes_of-word-requires : goal.bytes_of-word-requires
-bytes_of-word-requires c = omega (arith, grains_few c.args.a.now c.well_formed.0.0)
 
 pub returns-then-count-grain_of : goal.returns-then-count-grain_of
 returns-then-count-grain_of c =

@@ -15,7 +15,7 @@ overflow_add-p c =
 
 pub lay_last-requires : goal.lay_last-requires
 lay_last-requires c =
-    last_keep _ _ _ c.lay_full.ensures c.requires.layout.last
+    last_keep _ _ c.lay_full.ensures c.requires.layout.last
 
 pub overflow_add-p-2 : goal.overflow_add-p-2
 overflow_add-p-2 c =

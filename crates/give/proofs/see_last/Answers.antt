@@ -1,7 +1,7 @@
 -- `give::see_last` meets its contract: the last piece of full length is the head of its own list, and any other list hangs on
 -- its head. Assumes nothing.
 use native.Mathlib.Omega.{arith}
-use mathlib.Core.Path.{sym, ◌∙◌}
+use mathlib.Core.Path.{◌∙◌}
 use Rattle.header.specs.Turned.{grains_few}
 use Rattle.give.specs.Last.{last_own}
 use Rattle.give.proofs.see_last.Goals as goal
@@ -23,11 +23,3 @@ returns-then-k-list_of c =
     rw (← c.list_of-k.ensures.0)
     (last_own c.args.a.now c.args.lists.now c.args.g c.args.full c.args.h c.list_of-k.result c.well_formed.0.0 c.requires.1
     (c.if-k-list_of.true ∙ c.list_of.ensures.0) c.bytes_of-last.result c.bytes_of-last.ensures)
-
-pub see_other-requires : goal.see_other-requires
-see_other-requires c =
-    (c.requires.0, c.requires.1, c.list_of-k.ensures.1, λ e. c.if-k-list_of.false (e ∙ sym c.list_of.ensures.0), c.bytes_of-last.ensures)
-
-pub returns : goal.returns
-returns c =
-    rw (← c.list_of-k.ensures.0) c.see_other.ensures

@@ -3,13 +3,18 @@ use native.Mathlib.Omega.{arith}
 use mathlib.Core.Path.{sym, ◌∙◌}
 use Rattle.choice.specs.Says.{says_yes, says_no}
 use Rattle.header.specs.Turned.{grains_few}
-use Rattle.give.specs.Last.{last_first, last_second, last_other}
+use Rattle.give.specs.Last.{last_first, last_unmarked, last_second, last_other}
 use Rattle.give.proofs.see_other.Goals as goal
+
+pub returns-then-not-is_marked : goal.returns-then-not-is_marked
+returns-then-not-is_marked c =
+    last_unmarked c.args.a.now c.args.lists.now c.args.g c.args.full c.args.h c.args.k c.well_formed.0.0 c.requires.1 c.requires.3 c.requires.2
+    c.fetch-word.result c.fetch-word.ensures (c.if-word-last.true ∙ c.requires.4) (says_no _ c.is_marked.result c.is_marked.ensures c.if-not-is_marked.true)
 
 pub returns-then-word-last : goal.returns-then-word-last
 returns-then-word-last c =
     last_first c.args.a.now c.args.lists.now c.args.g c.args.full c.args.h c.args.k c.well_formed.0.0 c.requires.1 c.requires.3 c.requires.2
-    c.fetch-word.result c.fetch-word.ensures (c.if-word-last.true ∙ c.requires.4) c.is_marked-ok.result c.is_marked-ok.ensures
+    c.fetch-word.result c.fetch-word.ensures (c.if-word-last.true ∙ c.requires.4) (says_yes _ c.is_marked.result c.is_marked.ensures c.if-not-is_marked.false)
 
 pub is_joined-requires : goal.is_joined-requires
 is_joined-requires c =

@@ -1,18 +1,11 @@
 -- `header::leads`: one word leads to a grain, and the code compares with that word.
-use native.Mathlib.Omega.{arith}
 use mathlib.Core.Path.{◌∙◌, sym}
-use Rattle.header.specs.Turned.{grains_few}
-use Rattle.header.specs.Told.{leads_yes, leads_no}
+use Rattle.header.specs.Told.{says_eqb, leads_yes, leads_no}
 use Rattle.header.proofs.leads.Goals as goal
-
-pub bytes_of-requires : goal.bytes_of-requires
-bytes_of-requires c =
-    omega (arith, grains_few c.args.a.now c.well_formed.0.0)
-
-pub returns-then-field-bytes_of : goal.returns-then-field-bytes_of
-returns-then-field-bytes_of c =
-    leads_yes c.args.a.now c.args.g c.args.f c.field.result c.args.y 0 c.requires.0 c.requires.2 c.well_formed.0.0 c.field.ensures (c.if-field-bytes_of.true ∙ c.bytes_of.ensures)
 
 pub returns : goal.returns
 returns c =
-    leads_no c.args.a.now c.args.g c.args.f c.field.result c.args.y 0 c.requires.0 c.requires.2 c.well_formed.0.0 c.field.ensures (λ e. c.if-field-bytes_of.false (e ∙ sym c.bytes_of.ensures))
+    let s = c.args in
+    says_eqb _ c.field.result c.bytes_of.result
+    (λ e. leads_yes s.a.now s.g s.f c.field.result s.y 0 c.requires.0 c.requires.2 c.well_formed.0.0 c.field.ensures (e ∙ c.bytes_of.ensures))
+    (λ n. leads_no s.a.now s.g s.f c.field.result s.y 0 c.requires.0 c.requires.2 c.well_formed.0.0 c.field.ensures (λ e. n (e ∙ sym c.bytes_of.ensures)))

@@ -1,6 +1,7 @@
 -- `header::used_at`: each return is one test of the size word.
 use native.Mathlib.Omega.{arith}
 use mathlib.Core.Path.{ap, sym, ◌∙◌}
+use Rattle.std.specs.Prelude.{Some}
 use Rattle.header.specs.Turned.{grains_few}
 use Rattle.header.specs.Told.{used_of, told_used, not_used, told_none, says}
 use Rattle.header.proofs.used_at.Goals as goal
@@ -20,4 +21,4 @@ returns c =
     let z = c.if-word-le1.false in
     let few = grains_few c.args.a.now c.well_formed.0.0 in
     says c.args.a.now c.args.g c.field-word.result c.requires c.field-word.ensures used_of
-    (told_used _ _ _ c.requires few z (rw (c.count.ensures, c.grain_of-used.ensures) at c.if-count-g.false) ∙ sym c.grain_of-used.ensures)
+    (told_used _ _ _ c.requires few z (rw (c.count.ensures, c.grain_of-used.ensures) at c.if-count-g.false) ∙ ap Some (sym c.grain_of-used.ensures))

@@ -1,7 +1,8 @@
 -- `machine::guard_next`: the sum that wraps is the guard word.
+use Rattle.std.proofs.Common.{rules}
 use Rattle.machine.specs.Machine.{guard_next}
 use Rattle.machine.proofs.guard_next.Goals as goal
 
 pub returns : goal.returns
 unfolding guard_next
-returns c = c.wrapping_add_u64.ensures.value
+returns c = search rules

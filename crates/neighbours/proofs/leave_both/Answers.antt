@@ -1,7 +1,8 @@
 -- `neighbours::leave_both`: one leaves and then the other; the first keeps the lengths.
 use native.Mathlib.Omega.{arith}
 use Rattle.free_list.specs.Written.{written_length, written_room}
-use Rattle.neighbours.specs.Leaving.{leaving_of, known_keep, both_left}
+use Rattle.neighbours.specs.After.{leaving_of}
+use Rattle.neighbours.specs.Leaving.{known_keep, both_left}
 use Rattle.neighbours.proofs.leave_both.Goals as goal
 
 pub leave-requires-2 : goal.leave-requires-2

@@ -1,13 +1,8 @@
 -- `reallocate::leave_old`: the return is planned on the slices as the take left them; where it is refused the take is
 -- undone, and else the payload is carried and what was planned is written. Neither changes a length.
 use Rattle.deallocate.specs.Shown.{able_keep}
-use Rattle.reallocate.specs.Left.{halves_inside, left_refused, left_done}
+use Rattle.reallocate.specs.Left.{halves_inside, left_done}
 use Rattle.reallocate.proofs.leave_old.Goals as goal
-
-pub returns-then-back-ne0 : goal.returns-then-back-ne0
-returns-then-back-ne0 c =
-    let s = c.args in
-    left_refused s.a.now s.lists.now s.live.now s.q s.to s.u s.s c.plan_back-back.result c.plan_back-back.ensures _ _ _ c.if-back-ne0.true c.undo_take.ensures
 
 pub move_halves-requires : goal.move_halves-requires
 move_halves-requires c =
@@ -15,9 +10,9 @@ move_halves-requires c =
 
 pub apply_later-requires : goal.apply_later-requires
 apply_later-requires c =
-    (able_keep c.args.a.now _ c.plan_back-back.result c.move_halves.auto.a (c.plan_back-back.ensures.able c.if-back-ne0.false).0, c.requires.1, c.requires.2)
+    (able_keep c.args.a.now _ c.in-Ok.back c.move_halves.auto.a c.in-Ok.ensures.able.0, c.requires.1, c.requires.2)
 
-pub returns : goal.returns
-returns c =
+pub returns-in-Ok : goal.returns-in-Ok
+returns-in-Ok c =
     let s = c.args in
-    left_done s.a.now s.lists.now s.live.now s.q s.to s.u s.s c.plan_back-back.result c.plan_back-back.ensures _ _ _ _ c.if-back-ne0.false c.move_halves.auto.a c.move_halves.ensures c.apply_later.ensures
+    left_done s.a.now s.lists.now s.live.now s.q s.to s.u s.s c.in-Ok.back c.in-Ok.ensures _ _ _ _ c.move_halves.auto.a c.move_halves.ensures c.apply_later.ensures

@@ -1,44 +1,43 @@
 -- `reallocate::move_payload`: refused as the slide is, or it is made; else all hangs on the move elsewhere.
 use Prim.Native.Nat.{◌+◌, ◌-◌, ◌*◌}
 use native.Mathlib.Omega.{arith}
+use Rattle.std.proofs.lemmas.Result.{err_from_is_err_and}
+use Rattle.std.specs.Prelude.{Some, Ok}
 use Rattle.header.specs.Turned.{grains_few}
-use Rattle.slide.specs.Shown.{Able}
-use Rattle.reallocate.specs.Slid.{slide_ready, moves_refused, moves_down, moves_elsewhere}
+use Rattle.slide.specs.Shown.{Slides}
+use Rattle.reallocate.specs.Slid.{slide_ready, moves_refused, moves_down}
 use Rattle.reallocate.proofs.move_payload.Goals as goal
-use Rattle.reallocate.proofs.move_payload.Goals.{Then-p-eq-SLID}
+use Rattle.reallocate.proofs.move_payload.Goals.{In-Some}
 
--- a slide that was planned can be made
-able : (c : Then-p-eq-SLID) → let s = c.args in Able s.a.now s.length c.plan_slide-p.result
-able c = c.plan_slide-p.ensures.able c.if-p-ne0.false c.if-p-eq-SLID.true
+-- a slide that was planned
+slides : (c : In-Some) → let s = c.args in Slides s.a.now s.lists.now s.x s.s s.behind s.length s.multiple (Ok (Some c.in-Some.p))
+slides c = rw c.in-Some.is at c.in_ok-planned.ensures
 
-pub returns-then-p-ne0 : goal.returns-then-p-ne0
-returns-then-p-ne0 c =
+pub returns-in_err-planned : goal.returns-in_err-planned
+returns-in_err-planned c =
     let s = c.args in
-    moves_refused s.a.now s.lists.now s.live.now s.q s.x s.s s.behind s.length s.multiple c.plan_slide-p.result c.plan_slide-p.ensures s.q c.if-p-ne0.true
+    let p = err_from_is_err_and c.from_residual.result c.from_residual.ensures.1 in
+    rw (p.1, p.2) (moves_refused s.a.now s.lists.now s.live.now s.q s.x s.s s.behind s.length s.multiple c.in_err-planned.field-0.0 c.in_err-planned.ensures)
 
 pub overflow_mul-u : goal.overflow_mul-u
 overflow_mul-u c =
     omega (arith, c.requires.2.inside, grains_few c.args.a.now c.well_formed.0.0)
 
+pub slide_down-requires : goal.slide_down-requires
+slide_down-requires c =
+    let s = c.args in
+    slide_ready s.a.now s.lists.now s.live.now s.q (2 * (s.x + s.s) - s.q) s.length c.in-Some.p c.requires.1 (slides (goal.at.slide_down-requires c).In-Some).able c.requires.3
+    (omega (arith, c.requires.4, c.requires.2.inside)) (omega (arith, c.requires.5))
+
 pub overflow_mul-to : goal.overflow_mul-to
 overflow_mul-to c =
-    omega (arith, (able (goal.at.overflow_mul-to c).Then-p-eq-SLID).makeable.inside, grains_few c.args.a.now c.well_formed.0.0)
+    omega (arith, (slides (goal.at.overflow_mul-to c).In-Some).able.makeable.inside, grains_few c.args.a.now c.well_formed.0.0)
 
 pub overflow_add-to : goal.overflow_add-to
 overflow_add-to c =
-    omega (arith, (able (goal.at.overflow_add-to c).Then-p-eq-SLID).makeable.pad, grains_few c.args.a.now c.well_formed.0.0)
-
-pub slide_down-requires : goal.slide_down-requires
-slide_down-requires c =
-    slide_ready c.args.a.now c.args.lists.now c.args.live.now c.args.q (2 * (c.args.x + c.args.s) - c.args.q) c.args.length c.plan_slide-p.result c.requires.1 (able (goal.at.slide_down-requires c).Then-p-eq-SLID) c.requires.3
-    (omega (arith, c.requires.4, c.requires.2.inside)) (omega (arith, c.requires.5))
-
-pub returns-then-p-eq-SLID : goal.returns-then-p-eq-SLID
-returns-then-p-eq-SLID c =
-    let s = c.args in
-    moves_down s.a.now s.lists.now s.live.now s.q s.x s.s s.behind s.length s.multiple c.plan_slide-p.result c.plan_slide-p.ensures c.if-p-ne0.false _ _ _ c.if-p-eq-SLID.true c.slide_down.ensures
+    omega (arith, (slides (goal.at.overflow_add-to c).In-Some).able.makeable.pad, grains_few c.args.a.now c.well_formed.0.0)
 
 pub returns : goal.returns
 returns c =
     let s = c.args in
-    moves_elsewhere s.a.now s.lists.now s.live.now s.q s.x s.s s.behind s.length s.multiple c.plan_slide-p.result c.plan_slide-p.ensures c.if-p-ne0.false _ _ _ c.if-p-eq-SLID.false _ c.go_elsewhere.ensures
+    moves_down s.a.now s.lists.now s.live.now s.q s.x s.s s.behind s.length s.multiple _ _ _ c.in-Some.p (slides (goal.at.returns c).In-Some) c.slide_down.ensures

@@ -1,23 +1,36 @@
 -- `resize::see_elsewhere`: each return is where the script ends.
-use mathlib.Core.Path.{ap, ◌∙◌}
+use native.Mathlib.Omega.{arith}
 use Prim.Native.Nat.{◌-◌, ◌*◌}
-use Rattle.lent.specs.Slices.{grains}
-use Rattle.entries.specs.Answers.{held, verdict}
-use Rattle.choice.specs.Choice.{eq_yes, eq_no}
+use Rattle.std.proofs.lemmas.Result.{err_from_is_err_and}
+use Rattle.refusal.specs.Number.{number}
+use Rattle.lent.proofs.Shown.{grains_below}
+use Rattle.entries.specs.Lent.{memory_in, grains_in}
 use Rattle.hand_out.specs.Answers.{taken_of}
 use Rattle.resize.specs.Sees.{taken_bad, join_bad, join_found}
 use Rattle.resize.proofs.see_elsewhere.Goals as goal
 
-pub returns-then-found-ne0 : goal.returns-then-found-ne0
-returns-then-found-ne0 c = λ g.
-    taken_bad (held c.args.a.now c.args.lists.now c.args.tags.now g) (grains c.args.a.now) c.args.length c.args.multiple c.args.x c.args.s (c.args.q - 2 * c.args.x) c.args.after c.args.before c.see_taken-found.result.refusal (c.see_taken-found.ensures g ∙ eq_no c.see_taken-found.result.refusal 0 _ _ c.if-found-ne0.true)
+pub returns-in_err-into : goal.returns-in_err-into
+returns-in_err-into c q g =
+    let h = c.args.heap.now in
+    let o = c.args.block in
+    let p = err_from_is_err_and c.from_residual.result c.from_residual.ensures.1 in
+    rw (p.1, p.2) (taken_bad (memory_in h g) (grains_in h) c.args.asked.length c.args.asked.multiple o.at o.grains (q - 2 * o.at) c.args.after c.args.before (number c.in_err-into.field-0.0) (c.in_err-into.ensures g))
 
-pub returns-then-not-see_join : goal.returns-then-not-see_join
-returns-then-not-see_join c = λ g.
-    join_bad (held c.args.a.now c.args.lists.now c.args.tags.now g) (grains c.args.a.now) c.args.length c.args.multiple c.args.x c.args.s (c.args.q - 2 * c.args.x) c.args.after c.args.before (taken_of c.see_taken-found.result) (c.see_taken-found.ensures g ∙ eq_yes c.see_taken-found.result.refusal 0 _ _ c.if-found-ne0.false)
-    (c.see_join.ensures g ∙ ap verdict c.if-not-see_join.true)
+pub overflow_add-block : goal.overflow_add-block
+overflow_add-block c = omega (arith, c.requires.1, grains_below c.args.heap.now.tagged.arena.now c.args.heap.now.tagged.sized)
+
+pub overflow_add-before : goal.overflow_add-before
+overflow_add-before c = omega (arith, c.requires.1, c.requires.2, grains_below c.args.heap.now.tagged.arena.now c.args.heap.now.tagged.sized)
+
+pub returns-in_err-see_join : goal.returns-in_err-see_join
+returns-in_err-see_join c q g =
+    let h = c.args.heap.now in
+    let o = c.args.block in
+    let p = err_from_is_err_and c.from_residual-in_err-see_join.result c.from_residual-in_err-see_join.ensures.1 in
+    rw (p.1, p.2) (join_bad (memory_in h g) (grains_in h) c.args.asked.length c.args.asked.multiple o.at o.grains (q - 2 * o.at) c.args.after c.args.before (taken_of c.in_ok-into.into) (c.in_ok-into.ensures g) (number c.in_err-see_join.field-0.0) (c.in_err-see_join.ensures g))
 
 pub returns : goal.returns
-returns c = λ g.
-    join_found (held c.args.a.now c.args.lists.now c.args.tags.now g) (grains c.args.a.now) c.args.length c.args.multiple c.args.x c.args.s (c.args.q - 2 * c.args.x) c.args.after c.args.before (taken_of c.see_taken-found.result) (c.see_taken-found.ensures g ∙ eq_yes c.see_taken-found.result.refusal 0 _ _ c.if-found-ne0.false)
-    (c.see_join.ensures g ∙ ap verdict c.if-not-see_join.false)
+returns c q g =
+    let h = c.args.heap.now in
+    let o = c.args.block in
+    join_found (memory_in h g) (grains_in h) c.args.asked.length c.args.asked.multiple o.at o.grains (q - 2 * o.at) c.args.after c.args.before (taken_of c.in_ok-into.into) (c.in_ok-into.ensures g) (c.in_ok-see_join.ensures g)

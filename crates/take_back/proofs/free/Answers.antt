@@ -13,25 +13,25 @@ use Rattle.take_back.proofs.free.Goals.{After-list_of, Start}
 
 -- what is freed, and its steps
 abbrev freed : (c : Start) → Freed
-freed c = record { at = c.args.x; grains = c.args.s; before = c.args.before; after = c.args.after }
+freed c = record { at = c.args.found.block.at; grains = c.args.found.block.grains; before = c.args.found.before; after = c.args.found.after }
 
 abbrev early : (c : Start) → List Step
-early c = beside_steps c.args.x c.args.s c.args.before c.args.after
+early c = beside_steps c.args.found.block.at c.args.found.block.grains c.args.found.before c.args.found.after
 
 abbrev late : (c : Start) → List Step
-late c = join_steps c.args.x c.args.s c.args.before c.args.after
+late c = join_steps c.args.found.block.at c.args.found.block.grains c.args.found.before c.args.found.after
 
 -- the neighbours have left their lists
-entering : (c : After-list_of) → CanRun (enter c.list_of.result (c.args.x - c.args.before) ∷ []) c.leave_both.new.a c.leave_both.new.lists
+entering : (c : After-list_of) → CanRun (enter c.list_of.result (c.args.found.block.at - c.args.found.before) ∷ []) c.leave_both.new.links.arena.now c.leave_both.new.links.lists.now
 entering c =
-    let early : List Step = beside_steps c.args.x c.args.s c.args.before c.args.after in
-    let late : List Step = join_steps c.args.x c.args.s c.args.before c.args.after in
-    subst (λ (k : ℕ). CanRun (enter k (c.args.x - c.args.before) ∷ []) c.leave_both.new.a c.leave_both.new.lists) (sym c.list_of.ensures.0)
-    (run_right (early) (late) c.args.a.now c.args.lists.now c.leave_both.new.a c.leave_both.new.lists c.requires.steps c.leave_both.ensures)
+    let early : List Step = beside_steps c.args.found.block.at c.args.found.block.grains c.args.found.before c.args.found.after in
+    let late : List Step = join_steps c.args.found.block.at c.args.found.block.grains c.args.found.before c.args.found.after in
+    subst (λ (k : ℕ). CanRun (enter k (c.args.found.block.at - c.args.found.before) ∷ []) c.leave_both.new.links.arena.now c.leave_both.new.links.lists.now) (sym c.list_of.ensures.0)
+    (run_right (early) (late) c.args.links.now.arena.now c.args.links.now.lists.now c.leave_both.new.links.arena.now c.leave_both.new.links.lists.now c.requires.steps c.leave_both.ensures.runs)
 
 pub leave_both-requires : goal.leave_both-requires
 leave_both-requires c = (
-  run_left (early (goal.at.leave_both-requires c).Start) (late (goal.at.leave_both-requires c).Start) c.args.a.now c.args.lists.now [] [] c.requires.steps,
+  run_left (early (goal.at.leave_both-requires c).Start) (late (goal.at.leave_both-requires c).Start) c.args.links.now.arena.now c.args.links.now.lists.now [] [] c.requires.steps,
   omega (arith, c.requires.tags.counted),
   omega (arith, c.requires.tags.counted),
   c.requires.tags.before,
@@ -40,13 +40,13 @@ leave_both-requires c = (
 
 pub enter-requires : goal.enter-requires
 enter-requires c =
-    can_enter c.list_of.result (c.args.x - c.args.before) [] c.leave_both.new.a c.leave_both.new.lists (entering (goal.at.enter-requires c).After-list_of)
+    can_enter c.list_of.result (c.args.found.block.at - c.args.found.before) [] c.leave_both.new.links.arena.now c.leave_both.new.links.lists.now (entering (goal.at.enter-requires c).After-list_of)
 
-pub returns : goal.returns
-returns c =
-    free_done c.args.a.now c.args.lists.now c.args.tags.now c.args.q (freed (goal.at.returns c).Start) c.leave_both.new.a c.leave_both.new.lists c.enter.new.a c.enter.new.lists c.deallocate_tags.new.tags
-    c.requires.steps c.leave_both.ensures
-    (subst (λ (k : ℕ). Runs (enter k (c.args.x - c.args.before) ∷ []) c.leave_both.new.a c.leave_both.new.lists c.enter.new.a c.enter.new.lists) c.list_of.ensures.0
-    (runs_then (enter c.list_of.result (c.args.x - c.args.before)) [] c.leave_both.new.a c.leave_both.new.lists c.enter.new.a c.enter.new.lists c.enter.new.a c.enter.new.lists (entering (goal.at.returns c).After-list_of) c.enter.ensures
-    (runs_none c.enter.new.a c.enter.new.lists)))
+pub returns-clause-does : goal.returns-clause-does
+returns-clause-does c =
+    free_done c.args.links.now.arena.now c.args.links.now.lists.now c.args.tags.now c.args.q (freed (goal.at.returns-clause-does c).Start) c.leave_both.new.links.arena.now c.leave_both.new.links.lists.now c.enter.new.self.arena.now c.enter.new.self.lists.now c.deallocate_tags.new.tags
+    c.requires.steps c.leave_both.ensures.runs
+    (subst (λ (k : ℕ). Runs (enter k (c.args.found.block.at - c.args.found.before) ∷ []) c.leave_both.new.links.arena.now c.leave_both.new.links.lists.now c.enter.new.self.arena.now c.enter.new.self.lists.now) c.list_of.ensures.0
+    (runs_then (enter c.list_of.result (c.args.found.block.at - c.args.found.before)) [] c.leave_both.new.links.arena.now c.leave_both.new.links.lists.now c.enter.new.self.arena.now c.enter.new.self.lists.now c.enter.new.self.arena.now c.enter.new.self.lists.now (entering (goal.at.returns-clause-does c).After-list_of) c.enter.ensures.stepped
+    (runs_none c.enter.new.self.arena.now c.enter.new.self.lists.now)))
     c.deallocate_tags.ensures

@@ -1,12 +1,7 @@
 -- `undo::header_back`: four words put, one after the other.
 use native.Mathlib.Omega.{arith}
-use mathlib.Core.Path.{◌∙◌}
 use Rattle.free_list.specs.Lent.{grain_put}
 use Rattle.undo.proofs.header_back.Goals as goal
-
-pub put_field-requires-2 : goal.put_field-requires-2
-put_field-requires-2 c =
-    (grain_put c.args.a.now _ _ _ c.args.s.at c.put_field.ensures c.requires, omega arith)
 
 pub put_field-requires-3 : goal.put_field-requires-3
 put_field-requires-3 c =
@@ -15,7 +10,3 @@ put_field-requires-3 c =
 pub put_field-requires-4 : goal.put_field-requires-4
 put_field-requires-4 c =
     (grain_put _ _ _ _ c.args.s.at c.put_field-3.ensures (grain_put _ _ _ _ c.args.s.at c.put_field-2.ensures (grain_put c.args.a.now _ _ _ c.args.s.at c.put_field.ensures c.requires)), omega arith)
-
-pub returns : goal.returns
-returns c =
-    c.put_field-4.ensures ∙ rw (c.put_field-3.ensures, c.put_field-2.ensures, c.put_field.ensures)

@@ -1,9 +1,0 @@
--- A turn for each of the six numbers.
-use Rattle.std.proofs.Common.{◌≤◌, ◌-◌}
-use Rattle.replay.proofs.parse.parse.Given as goal
-
-abbrev pub invariant-loop-i : goal.invariant-loop-i
-invariant-loop-i l = l.i ≤ 6
-
-abbrev pub decreases-loop-i : goal.decreases-loop-i
-decreases-loop-i l = 6 - l.i

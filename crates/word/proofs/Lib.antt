@@ -1,0 +1,2 @@
+-- What the library's conversions between numbers and bytes are here.
+pub mod Bytes
