@@ -27,7 +27,7 @@ use Rattle.free_list.specs.Lent.{lent, held, classes, Room, no_link, link, Leads
 use Rattle.free_list.specs.Back.{Back, reading_prev, back_yes, back_no}
 use Rattle.allocate.specs.declared.Plan.{Plan}
 use Rattle.allocate.specs.declared.First.{First}
-use Rattle.allocate.specs.declared.Rest.{Rest}
+use Rattle.carve.specs.declared.Rest.{Rest}
 use Rattle.allocate.specs.First.{first_then, back_then, back_refused, FirstSeen, ChecksFirst, SeenFirst}
 use Rattle.allocate.specs.Rest.{left_writes, RestSeen, SeenRest}
 

@@ -20,7 +20,7 @@ use Rattle.free_list.specs.Seen.{SeenHead}
 use Rattle.free_list.specs.Leading.{head_leads}
 use Rattle.carve.specs.Made.{left_behind}
 use Rattle.carve.specs.Left.{left_nothing, left_headless, left_listed}
-use Rattle.allocate.specs.declared.Rest.{Rest}
+use Rattle.carve.specs.declared.Rest.{Rest}
 
 -- the first block of list k, of s grains at y, whose next is the word x, leaves its list and keeps m grains; the rest, if
 -- any, goes before the word h, the head of list q

@@ -16,6 +16,7 @@ ghost use Rattle.allocate.specs.Rest.{SeenRest};
 ghost use Rattle.allocate.specs.Plan.{Cuts, Plans};
 
 use bits::MAP_WORDS;
+use carve::Rest;
 use header::{BEFORE, NEXT, NONE, PREV};
 use refusal::Refusal;
 
@@ -42,13 +43,6 @@ struct First {
     pub at: usize,
     pub grains: usize,
     pub next: u64,
-}
-
-// The list of what is left of a block, and its head, where all that is beside it agrees.
-#[derive(Clone, Copy)]
-struct Rest {
-    pub list: usize,
-    pub head: u64,
 }
 
 // ---- the plan

@@ -69,7 +69,7 @@ pub fn table_bit(t: &[u64], k: usize) -> u64
     (table::fetch(t, k / BITS) >> (k % BITS)) % 2
 }
 
-// Bit k of the table set.
+// Bit k of the table set. It differs from the next one in what is done to the word, which has a function of its own.
 pub fn set_table_bit(t: &mut [u64], k: usize)
     requires { k < 64 * length t.old }
     ensures { t.new ≡ set_table_bit t.old k }

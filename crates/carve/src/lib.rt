@@ -12,6 +12,13 @@ ghost use Rattle.carve.specs.Made.{WrittenInArena, left_behind};
 
 use header::{BEFORE, PREV, SIZE};
 
+// The list of what is left of a block, and the head before which it is put.
+#[derive(Clone, Copy, Debug, PartialEq, Eq)]
+pub struct Rest {
+    pub list: usize,
+    pub head: u64,
+}
+
 // The block of t grains at x is in use.
 #[tactic(auto, using(header::specs::Turned::grains_few, crate::specs::Made::put_grains))]
 pub fn put_whole(a: &mut [u8], x: usize, t: usize)

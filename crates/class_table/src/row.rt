@@ -33,6 +33,7 @@ impl Row {
     {
         let mut class = 0;
         let mut first = GRAIN;
+        // No index is counted: the first size of a class is doubled, as the document says it.
         while first * 2 <= size {
             first *= 2;
             class += 1;

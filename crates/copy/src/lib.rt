@@ -1,8 +1,9 @@
 // Payloads moved inside one slice, in half grains of 16 bytes. Source and target may overlap: the first ones go first, but
 // upwards onto the source itself the last ones, so that each byte is read before it is written over.
 //
-// They go by grains of 32 bytes, each of which is read whole before it is written: the compiler makes of it two loads and
-// two stores of 16 bytes, on x86-64 and aarch64. What is left is nothing or one half grain.
+// They go by grains of 32 bytes, each of which is read whole before it is written: the compiler makes of it two loads and two
+// stores of 16 bytes, on x86-64 and aarch64. What is left is nothing or one half grain. The library's `copy_within` calls
+// memmove, and the archive may call nothing.
 
 #![tactic(auto)]
 
@@ -18,6 +19,7 @@ pub fn move_halves(a: &mut [u8], from: usize, to: usize, n: usize)
     requires { (16 * (from + n) ≤ length a.old) × (16 * (to + n) ≤ length a.old) }
     ensures { a.new ≡ moved a.old (16 * from) (16 * to) (16 * n) }
 {
+    // Three tests, since `||` and `else` cost a push, a store on the stack and two tests more.
     if to < from {
         move_ascending(a, HALF * from, HALF * to, n);
         return;

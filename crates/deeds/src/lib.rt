@@ -23,6 +23,7 @@ pub fn leave_beside(links: &mut Links, t: usize, y: usize)
 }
 
 // The neighbours of the block of s grains at x leave their lists: some grains before it, and some after it.
+// The struct of a block stands in a crate above this one.
 pub fn leave_both(links: &mut Links, x: usize, s: usize, before: usize, after: usize)
     requires { CanRun (beside_steps x s before after) links.old.arena.now links.old.lists.now × (before < piece) × (after < piece) × (before ≤ x) × (x + s < words) }
     ensures runs { Runs (beside_steps x s before after) links.old.arena.now links.old.lists.now links.new.arena.now links.new.lists.now }

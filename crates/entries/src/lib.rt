@@ -19,7 +19,7 @@ ghost use Rattle.chains.specs.Steps.{Step};
 ghost use Rattle.plans.specs.Checks.{see_free, see_entry, see_head, see_rest, see_join};
 ghost use Rattle.lent.specs.Slices.{grains, put_next, put_prev, head_at, put_head, put_mark};
 ghost use Rattle.refusal.specs.Answered.{answered};
-ghost use Rattle.entries.specs.Answers.{chosen, Long};
+ghost use Rattle.entries.specs.Answers.{chosen, Long, Enough};
 ghost use Rattle.entries.specs.Agrees.{Begins};
 ghost use Rattle.entries.specs.Stepped.{Stepped, Leaves, Enters};
 
@@ -65,6 +65,31 @@ pub fn list_of(s: usize) -> usize
     ensures { (result ≡ list_of s) × (result < list_count) }
 {
     class::map_floor(s as u64) as usize
+}
+
+// ---- the slices that are read, as values
+
+impl<'a> Tagged<'a> {
+    // An arena with a tag for each grain and for the end.
+    pub fn new(arena: &'a [u8], tags: &'a [u16]) -> Tagged<'a>
+        requires { grains arena.now < length tags.now }
+        ensures { (result.arena.now ≡ arena.now) × (result.tags.now ≡ tags.now) }
+    {
+        Tagged { arena, tags }
+    }
+}
+
+impl<'a> Lent<'a> {
+    // All three, each long enough.
+    pub fn new(arena: &'a [u8], lists: &'a [u64], tags: &'a [u16]) -> Lent<'a>
+        requires { Enough arena.now lists.now tags.now }
+        ensures { (result.tagged.arena.now ≡ arena.now) × (result.lists.now ≡ lists.now) × (result.tagged.tags.now ≡ tags.now) }
+    {
+        Lent {
+            tagged: Tagged::new(arena, tags),
+            lists,
+        }
+    }
 }
 
 // ---- checks

@@ -1,6 +1,6 @@
-// The heap's calls as C hears them: each answer is one number. 1 to 6 are the refusals, and no granted answer of a call is one
-// of them. What is promised of each is what firmheap promises: specs/Answers.antt says how. Under C's names and in C's way the
-// crate exports_c has them, which is the static library.
+// The heap's calls as C hears them: each answer is one number. 1 to 6 are the refusals, and no granted answer of a call is
+// one of them. There is a function for each call, since C has no methods. What is promised of each is what firmheap promises:
+// specs/Answers.antt says how. Under C's names and in C's way the crate exports_c has them, which is the static library.
 #![tactic(auto)]
 
 ghost use Rattle.std.specs.Prelude.{◌≡◌, ◌+◌};

@@ -12,7 +12,8 @@ ghost use Rattle.slices.specs.Arena.{size_at, link_at};
 ghost use Rattle.header.specs.Turned.{turned};
 ghost use Rattle.header.specs.Told.{free_of, used_of, busy_of};
 
-// The words of a header: how large the block is, and which block is before it in the arena.
+// The words of a header: how large the block is, and which block is before it in the arena. They are numbers and no enum, as they
+// are added up to a word's place, and the definitions count them so.
 pub const SIZE: usize = 0;
 
 pub const BEFORE: usize = 1;
@@ -23,7 +24,7 @@ pub const NEXT: usize = 2;
 
 pub const PREV: usize = 3;
 
-// A link that leads nowhere.
+// A link that leads nowhere. No Option: it is a word of the arena.
 pub const NONE: u64 = 18446744073709551615;
 
 // The sentinel's size word: one grain, used, the last of its piece.

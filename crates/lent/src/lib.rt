@@ -24,7 +24,8 @@ pub fn grain_count(a: &[u8]) -> usize
     a.len() / GRAIN
 }
 
-// The first word of grain x: the next block of its list, or a guard.
+// The first word of grain x: the next block of its list, or a guard. The four functions that read and write the two words
+// have the names of their definitions; one for both would need a third argument.
 pub fn next(a: &[u8], x: usize) -> u64
     requires { x < grains a.now }
     ensures { result ≡ next_at a.now x }
@@ -135,7 +136,8 @@ pub fn put_tag(tags: &mut [u16], x: usize, v: u16)
 
 // ---- what a tag says
 
-// The flags: the first grain of a block; the first or last of a free one; a payload starts in this grain, or at the next.
+// The flags, numbers and no enum, since a stored tag is their sum and its count: the first grain of a block; the first or
+// last of a free one; a payload starts in this grain, or at the next.
 pub const START: u16 = 8;
 
 pub const FREE: u16 = 4;

@@ -16,7 +16,8 @@ pub const HALF: usize = 2 * WORD;
 
 pub const GRAIN: usize = 2 * HALF;
 
-// The first-level classes, and the lists.
+// The first-level classes, and the lists. `bits` has the last number too: it stands beside this crate, and its map has no
+// classes.
 pub const CLASSES: usize = 12;
 
 pub const LISTS: usize = 16 * CLASSES;
@@ -55,7 +56,7 @@ const FIRST_PATTERN: u64 = 0xA5A5A5A5A5A5A5A5;
 
 const SECOND_PATTERN: u64 = 0xC3C3C3C3C3C3C3C3;
 
-// The first guard word of the used block at grain x.
+// The first guard word of the used block at grain x. The two have the names of their definitions, and a line each.
 pub fn guard_next(x: u64) -> u64
     requires { x < words / grain }
     ensures { result ≡ guard_next x }

@@ -137,26 +137,14 @@ fn overlaps(first: usize, end: usize, g: usize, len: usize) -> bool
     requires { g + len < 18446744073709551616 }
     ensures { Says (Overlap first end g len) result }
 {
-    if end <= g {
-        return false;
-    }
-    if g + len <= first {
-        return false;
-    }
-    true
+    g < end && first < g + len
 }
 
 // Whether the region from first to end can't be one of an arena of n grains.
 fn is_wrong(n: usize, first: usize, end: usize) -> bool
     ensures { Says (Wrong n first end) result }
 {
-    if end < 2 {
-        return true;
-    }
-    if end - 2 < first {
-        return true;
-    }
-    n < end
+    end < 2 || end - 2 < first || n < end
 }
 
 // ---- laying out

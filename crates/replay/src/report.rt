@@ -60,6 +60,7 @@ pub fn different(
 
 fn say_line(rt: &impl Print, line: u64, text: &[u8]) -> io::Result<()> {
     print!(rt; "line {line}: ")?;
+    // The line's own bytes, which may be no text.
     rt.write_all(text)?;
     println!(rt)
 }

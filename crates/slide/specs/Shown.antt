@@ -19,7 +19,7 @@ use Rattle.neighbours.specs.Shown.{seen_of, grains_of}
 use Rattle.neighbours.specs.Leaving.{Linked, Known, both_leaving}
 use Rattle.carve.specs.Made.{left_behind}
 use Rattle.slide.specs.declared.Plan.{Plan as PlanAnswer}
-use Rattle.slide.specs.declared.Rest.{Rest}
+use Rattle.carve.specs.declared.Rest.{Rest}
 
 -- ---- what a plan says
 

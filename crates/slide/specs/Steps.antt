@@ -27,7 +27,7 @@ use Rattle.neighbours.specs.Within.{Behind, both_leads}
 use Rattle.carve.specs.Made.{left_behind}
 use Rattle.carve.specs.Left.{left_nothing, left_unlisted, left_headless, left_listed}
 use Rattle.slide.specs.declared.Plan.{Plan as PlanAnswer}
-use Rattle.slide.specs.declared.Rest.{Rest}
+use Rattle.carve.specs.declared.Rest.{Rest}
 use Rattle.slide.specs.Shown.{turn_writes, SeenRest, Downs, Joined, Slides}
 
 -- ---- what is left of t grains where k are kept

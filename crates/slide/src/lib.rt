@@ -15,6 +15,7 @@ ghost use Rattle.neighbours.specs.Within.{Behind};
 ghost use Rattle.slide.specs.Shown.{down_writes, Makeable, SeenRest, Downs, Slides};
 
 use bits::LISTS;
+use carve::Rest;
 use header::NONE;
 use neighbours::Neighbour;
 use refusal::Refusal;
@@ -31,13 +32,6 @@ pub struct Plan {
     pub keep: usize,
     pub list: usize,
     pub head: u64,
-}
-
-// The list of what is left of a block, and its head.
-#[derive(Clone, Copy, Debug, PartialEq, Eq)]
-struct Rest {
-    list: usize,
-    head: u64,
 }
 
 // ---- the plan

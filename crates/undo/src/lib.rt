@@ -74,6 +74,7 @@ pub fn save_take(a: &[u8], lists: &[u64], live: &[u64], p: Plan) -> Saved
     requires { Ready a.now lists.now live.now p }
     ensures { SavedTake a.now lists.now live.now p result }
 {
+    // Two calls, since with the choice before one call a resize loads 293 words at most on x86-64, and 265 so.
     if p.keep == p.grains {
         return save(
             a,

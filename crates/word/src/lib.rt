@@ -13,7 +13,7 @@ ghost use Rattle.word.specs.Spelled.{four_put, eight_put};
 
 // ---- four bytes
 
-// The four bytes at i as one number.
+// The four bytes at i as one number. Four and eight bytes are read in a line each, which one function for both would not be.
 pub fn get4(a: &[u8], i: usize) -> u64
     requires { i + 4 ≤ length a.now }
     ensures { result ≡ num 4 a.now i }

@@ -3,9 +3,6 @@ use Rattle.neighbours.specs.Leaving.{both_leaving}
 use Rattle.deallocate.specs.Written.{able_after, joined_after}
 use Rattle.deallocate.proofs.apply_later.Goals as goal
 
-pub leave_both-requires : goal.leave_both-requires
-leave_both-requires c = (c.requires.0.behind, c.requires.0.before, c.requires.1)
-
 pub put_joined-requires : goal.put_joined-requires
 put_joined-requires c =
     let k = able_after {w = both_leaving c.args.a.now c.args.p.behind c.args.p.before} c.args.p c.leave_both.ensures c.requires.0 c.requires.1 in

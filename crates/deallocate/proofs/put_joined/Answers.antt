@@ -1,15 +1,10 @@
 -- `deallocate::put_joined`: the writes of the calls, one after the other; none of them changes a length.
-use native.Mathlib.Omega.{arith}
 use Rattle.sound.specs.Links.{push_writes}
 use Rattle.slices.proofs.Decode.{grains_keep}
 use Rattle.free_list.specs.Lent.{link}
 use Rattle.free_list.specs.Written.{written_length}
 use Rattle.deallocate.specs.Written.{returned}
 use Rattle.deallocate.proofs.put_joined.Goals as goal
-
-pub push-requires : goal.push-requires
-push-requires c =
-    (omega (arith, c.requires.0.inside), record { known = c.requires.0.list; room = c.requires.1 }, c.requires.0.head)
 
 pub put_free-requires : goal.put_free-requires
 put_free-requires c =

@@ -1,6 +1,5 @@
 -- `lent::put_guard`: the two words, one after the other.
 use native.Mathlib.Omega.{arith}
-use mathlib.Core.Path.{◌∙◌}
 use Rattle.lent.proofs.Kept.{next_grains}
 use Rattle.lent.proofs.Shown.{grains_below}
 use Rattle.lent.proofs.put_guard.Goals as goal
@@ -15,7 +14,3 @@ guard_prev-requires c =
 pub put_prev-requires : goal.put_prev-requires
 put_prev-requires c =
     rw c.put_next.ensures (next_grains c.args.a.now c.args.x c.guard_next.result c.args.x c.requires)
-
-pub returns : goal.returns
-returns c =
-    c.put_prev.ensures ∙ rw (c.guard_prev.ensures, c.put_next.ensures, c.guard_next.ensures)
