@@ -39,27 +39,8 @@ pub fn live_length(arena: usize) -> usize
 
 // ---- take
 
-// A payload of `size` bytes at a multiple of `align`: its offset. Small alignments have a copy of the take to themselves, in
-// which the compiler knows the payload's place in its block.
+// A payload of `size` bytes at a multiple of `align`: its offset.
 pub fn allocate(
-    arena: &mut [u8],
-    lists: &mut [u64],
-    live: &mut [u64],
-    size: usize,
-    align: usize,
-) -> Result<usize, Refusal>
-    ensures { Allocates arena.old lists.old live.old size align (taken result)
-        arena.new lists.new live.new }
-{
-    // With one call the longest path of a take has 275 instructions on x86-64, and 270 so.
-    if align <= HALF {
-        return take(arena, lists, live, size, align);
-    }
-    take(arena, lists, live, size, align)
-}
-
-// The same, for any alignment.
-fn take(
     arena: &mut [u8],
     lists: &mut [u64],
     live: &mut [u64],

@@ -1,4 +1,4 @@
--- `firmheap::take`: tables, then numbers, then the plan's refusal, or what was planned is stored.
+-- `firmheap::allocate`: tables, then numbers, then the plan's refusal, or what was planned is stored.
 use Prim.Native.Nat.{◌+◌, ◌*◌, ◌<◌, ◌^◌}
 use native.Mathlib.Omega.{arith}
 use lib.ListN.{length}
@@ -8,8 +8,8 @@ use Rattle.tables.specs.Length.{LongEnough}
 use Rattle.allocate.specs.Demand.{asked_demand}
 use Rattle.occupy.specs.Taken.{plan_ready}
 use Rattle.firmheap.specs.Take.{take_live, take_offset, allocate_short, allocate_wrong, allocate_refused, allocate_done}
-use Rattle.firmheap.proofs.take.Goals as goal
-use Rattle.firmheap.proofs.take.Goals.{Else-not-long_enough, In_ok-p}
+use Rattle.firmheap.proofs.allocate.Goals as goal
+use Rattle.firmheap.proofs.allocate.Goals.{Else-not-long_enough, In_ok-p}
 
 -- behind the first test the tables are long enough
 long : (c : Else-not-long_enough) → let s = c.args in LongEnough (length s.arena.now) (length s.lists.now) (length s.live.now)
