@@ -8,7 +8,7 @@ use Rattle.choice.specs.Says.{Says}
 use Rattle.choice.proofs.Says.{says_eq, says_same}
 use Rattle.choice.specs.Choice.{le?, same?}
 use Rattle.bits.proofs.Bit.{one_shl, pow_bit_other}
-use Rattle.bits.proofs.Zeros.{zeros_place}
+use Rattle.bits.proofs.Zeros.{zeros_lt, zeros_place}
 use Rattle.align.specs.Align.{Power, Rounded, RoundedDown}
 use Rattle.align.proofs.Align.{power_pos, round_up_by, round_down_by}
 
@@ -33,12 +33,29 @@ module _ (a : ℕ) (h : a < 2 ^ 64) where
   power_is p =
       p.1 ∙ ap (λ (z : ℕ). 2 ^ z) (sym (ap (count_trailing_zeros 64) p.1 ∙ zeros_pow p.0 (small_power a p.0 h p.1)))
 
+  pub shift_lt : 0 < a → count_trailing_zeros 64 a < 64
+  shift_lt p = zeros_lt 64 a p h
+
+  shifted : 0 < a → (1 * 2 ^ count_trailing_zeros 64 a) % 2 ^ 64 ≡ 2 ^ count_trailing_zeros 64 a
+  shifted p = one_shl (count_trailing_zeros 64 a) (shift_lt p)
+
   -- the test: a 1 shifted up to the lowest bit set is the number, or it isn't
+  pub test_yes : 0 < a → (1 * 2 ^ count_trailing_zeros 64 a) % 2 ^ 64 ≡ a → Power a
+  test_yes p e = (count_trailing_zeros 64 a, sym e ∙ shifted p)
+
+  pub test_no : 0 < a → ((1 * 2 ^ count_trailing_zeros 64 a) % 2 ^ 64 ≡ a → ⊥) → Power a → ⊥
+  test_no p ne q = ne (shifted p ∙ sym (power_is q))
+
+  -- both in one, as the code has it
   pub test_said : (a ≡ 0 → ⊥) → Says (Power a) ((1 * 2 ^ count_trailing_zeros 64 a) % 2 ^ 64 == a)
   test_said n =
       let e = one_shl (count_trailing_zeros 64 a) (zeros_place a (omega (arith, n)) h).0 in
       says_same ((1 * 2 ^ count_trailing_zeros 64 a) % 2 ^ 64 ≡ a) (Power a) ((1 * 2 ^ count_trailing_zeros 64 a) % 2 ^ 64 == a)
       (λ q. (count_trailing_zeros 64 a, sym q ∙ e)) (λ q. e ∙ sym (power_is q)) (says_eq ((1 * 2 ^ count_trailing_zeros 64 a) % 2 ^ 64) a)
+
+-- 0 is none
+pub test_zero : (a : ℕ) → a ≡ 0 → Power a → ⊥
+test_zero a e p = let q = power_pos a p in omega arith
 
 -- shifting down and up again loses nothing at the top
 back : (y t : ℕ) → y < 2 ^ 64 → (y / 2 ^ t * 2 ^ t) % 2 ^ 64 ≡ y / 2 ^ t * 2 ^ t

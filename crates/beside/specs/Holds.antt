@@ -1,13 +1,19 @@
 -- What is known of numbers that the checks gave: the payload's block is whole and in the arena, and so are its free neighbours.
-use Rattle.std.specs.Prelude.{ℕ, ◌+◌, ◌-◌, ◌*◌, ◌≤◌, ◌<◌, ◌≡◌}
+use Rattle.std.specs.Prelude.{ℕ, ◌+◌, ◌-◌, ◌*◌, ◌≤◌, ◌<◌, ◌≡◌, List}
 use Rattle.std.proofs.Common.{arith}
 use Rattle.script.specs.Memory.{Memory}
 use Rattle.script.specs.Script.{ok, run}
 use Rattle.machine.specs.Machine.{words, classes}
-use Rattle.plans.specs.Checks.{see_owner, see_after, see_before}
-use Rattle.plans.proofs.Checked.{owner_checked}
+use Rattle.plans.specs.Checks.{see_free, see_owner, see_after, see_before}
+use Rattle.plans.proofs.Checked.{whole_checked, owner_checked}
 use Rattle.plans.proofs.StorableParts.{after_ready, before_ready}
 use Rattle.plans.proofs.StorableCalls.{owner_inside}
+use Rattle.lent.specs.Slices.{grains}
+use Rattle.entries.specs.Answers.{held}
+
+-- a free block that was seen has some grains
+pub seen_some : (a l t g : List ℕ) (y s : ℕ) → run (held a l t g) (see_free (grains a) y) ≡ ok s → 0 < s
+seen_some a l t g y s h = omega (arith, (whole_checked (held a l t g) (grains a) y h).starts.some)
 
 module _ (m : Memory) (n : ℕ) where
   -- the payload at q is in a block of s grains at x

@@ -1,9 +1,9 @@
 -- What follows from specs/Bit.antt.
-use Rattle.std.specs.Prelude.{ℕ, suc, ◌+◌, ◌*◌, ◌/◌, ◌%◌, ◌^◌, ◌≤◌, ◌<◌, max, ◌≡◌}
+use Rattle.std.specs.Prelude.{ℕ, zero, suc, ◌+◌, ◌*◌, ◌/◌, ◌%◌, ◌^◌, ◌≤◌, ◌<◌, max, ◌≡◌, refl}
 use Rattle.std.proofs.Common.{one-mul, arith, ap, sym, ◌∙◌, shr-shr, shl_exact}
 use Rattle.std.proofs.Math.Pow.{pow-lt}
-use Rattle.std.specs.Int.Bits.{bit_or, bit_xor}
-use Rattle.std.proofs.lemmas.Nat.{or_lt, xor_lt}
+use Rattle.std.specs.Int.Bits.{bit_or, bit_xor, xor_step, differ}
+use Rattle.std.proofs.lemmas.Nat.{or_lt, xor_lt, xor_shr}
 use Rattle.std.proofs.lemmas.Nat.Bits.{bit_at_lowest, bit_at-suc, bit_at-zero, bit_at_above, bit_at-pow_same, bit_at-pow_other, bit_at_or, bit_at_xor}
 use Rattle.bits.specs.Bit.{bit, set_bit, clear_bit}
 
@@ -55,9 +55,30 @@ or_bit : (a b j : ℕ) → bit (bit_or a b) j ≡ max (bit a j) (bit b j)
 unfolding bit
 or_bit a b j = bit_at_or a b j
 
-xor_bit : (a b j : ℕ) → bit (bit_xor a b) j ≡ (bit a j + bit b j) % 2
+differ_lt : (x y : ℕ) → x < 2 → y < 2 → differ x y < 2
+differ_lt zero y p q = q
+differ_lt (suc x) zero p q = p
+differ_lt (suc zero) (suc y) p q = omega arith
+differ_lt (suc (suc x)) (suc y) p q = omega arith
+
+differ_zero : (x : ℕ) → differ x 0 ≡ x
+differ_zero zero = refl
+differ_zero (suc x) = refl
+
+xor_bit : (a b j : ℕ) → bit (bit_xor a b) j ≡ differ (bit a j) (bit b j)
 unfolding bit
-xor_bit a b j = bit_at_xor a b j
+xor_bit a b j =
+    rw (xor_shr a b j)
+    (omega (
+      arith,
+      xor_step (a / 2 ^ j) (b / 2 ^ j),
+      differ_lt (a / 2 ^ j % 2) (b / 2 ^ j % 2) (omega arith) (omega arith),
+    ))
+
+-- the same, as the rest of the sum by 2
+xor_rest : (a b j : ℕ) → bit (bit_xor a b) j ≡ (bit a j + bit b j) % 2
+unfolding bit
+xor_rest a b j = bit_at_xor a b j
 
 -- ---- a bit set, a bit cleared
 
@@ -74,13 +95,13 @@ set_bit_other m i j ne = or_bit m (2 ^ i) j ∙ omega (arith, pow_bit_other i j 
 -- bit i is cleared
 pub clear_bit_same : (m i : ℕ) → bit (clear_bit m i) i ≡ 0
 unfolding clear_bit set_bit
-clear_bit_same m i = xor_bit (bit_or m (2 ^ i)) (2 ^ i) i ∙ rw (set_bit_same m i, pow_bit i)
+clear_bit_same m i = xor_rest (bit_or m (2 ^ i)) (2 ^ i) i ∙ rw (set_bit_same m i, pow_bit i)
 
 -- the others are as they were
 pub clear_bit_other : (m i j : ℕ) → (i ≡ j → ⊥) → bit (clear_bit m i) j ≡ bit m j
 unfolding clear_bit set_bit
 clear_bit_other m i j ne =
-    xor_bit (bit_or m (2 ^ i)) (2 ^ i) j ∙ omega (arith, set_bit_other m i j ne, pow_bit_other i j ne, bit_lt m j)
+    xor_bit (bit_or m (2 ^ i)) (2 ^ i) j ∙ rw (set_bit_other m i j ne, pow_bit_other i j ne) (differ_zero (bit m j))
 
 -- a number of k bits keeps to k bits
 pub set_bit_lt : (k m i : ℕ) → m < 2 ^ k → i < k → set_bit m i < 2 ^ k

@@ -1,14 +1,45 @@
 -- Counting the zeros below a number's lowest set bit, and what a search that shifts and counts finds.
-use Rattle.std.specs.Prelude.{ℕ, ◌+◌, ◌-◌, ◌/◌, ◌^◌, ◌≤◌, ◌<◌, ◌≡◌}
-use Rattle.std.proofs.Common.{div-le_self, arith, ap, sym, ◌∙◌, ⊎_elim}
+use Rattle.std.specs.Prelude.{ℕ, zero, suc, ◌+◌, ◌-◌, ◌/◌, ◌%◌, ◌^◌, ◌≤◌, ◌<◌, ◌≡◌, ◌⊎◌}
+use Rattle.std.proofs.Common.{suc-le-suc, eq-zero-or-pos, div-le_self, arith, ap, sym, ◌∙◌, inl, inr, ⊎_elim}
 use Rattle.std.specs.Int.Count.{count_trailing_zeros}
 use Rattle.std.specs.Int.{w64}
 use Rattle.std.proofs.lemmas.Nat.Bits.{bit_at-trailing_zeros}
 use Rattle.bits.specs.Bit.{bit}
-use Rattle.bits.proofs.Bit.{bit_shr, bit_none, bit_high}
+use Rattle.bits.proofs.Bit.{bit_zero, bit_suc, bit_shr, bit_none, bit_high}
 use Rattle.choice.specs.Choice.{le?}
 use Rattle.bits.specs.First.{first_set}
 use Rattle.bits.proofs.First.{first_is}
+
+parity : (n : ℕ) → (n % 2 ≡ 0) ⊎ (n % 2 ≡ 1)
+parity n = ⊎_elim (λ e. inl e) (λ h. inr (omega arith)) (eq-zero-or-pos (n % 2))
+
+-- the bit at that place is set
+pub zeros_set : (k n : ℕ) → 0 < n → n < 2 ^ k → bit n (count_trailing_zeros k n) ≡ 1
+unfolding count_trailing_zeros
+zeros_set zero n p h = omega arith
+zeros_set (suc k) n p h = ⊎_elim
+    (λ e. rw e (bit_suc n _ ∙ zeros_set k (n / 2) (omega arith) (omega arith)))
+    (λ e. rw e (bit_zero n ∙ e))
+    (parity n)
+
+-- no bit below it is
+pub zeros_below : (k n j : ℕ) → j < count_trailing_zeros k n → bit n j ≡ 0
+unfolding count_trailing_zeros
+zeros_below zero n j h = omega arith
+zeros_below (suc k) n zero h = ⊎_elim (λ e. bit_zero n ∙ e) (λ e. let h' = rw e at h in omega (arith, h')) (parity n)
+zeros_below (suc k) n (suc j) h = ⊎_elim
+    (λ e. let h' = rw e at h in bit_suc n j ∙ zeros_below k (n / 2) j (omega (arith, h')))
+    (λ e. let h' = rw e at h in omega (arith, h'))
+    (parity n)
+
+-- and it is one of the places
+pub zeros_lt : (k n : ℕ) → 0 < n → n < 2 ^ k → count_trailing_zeros k n < k
+unfolding count_trailing_zeros
+zeros_lt zero n p h = omega arith
+zeros_lt (suc k) n p h = ⊎_elim
+    (λ e. rw e (suc-le-suc (zeros_lt k (n / 2) (omega arith) (omega arith))))
+    (λ e. rw e (omega arith))
+    (parity n)
 
 -- the zeros below the lowest bit set are its place, one of the 64: it is set, and no bit below it is
 pub zeros_place :

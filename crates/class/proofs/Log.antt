@@ -1,6 +1,8 @@
 -- What follows from specs/Log.antt.
-use Rattle.std.specs.Prelude.{ℕ, zero, suc, ◌+◌, ◌/◌, ◌^◌, ◌≤◌, ◌<◌, ◌≡◌, Bool, true, false}
-use Rattle.std.proofs.Common.{le_refl, arith, ap, ⊎_elim, pow_pos, pow_mono, le-leb}
+use Rattle.std.specs.Prelude.{ℕ, zero, suc, ◌+◌, ◌-◌, ◌/◌, ◌^◌, ◌≤◌, ◌<◌, ◌≡◌, Bool, true, false}
+use Rattle.std.proofs.Common.{le_refl, add-one, arith, ap, sym, ◌∙◌, ⊎_elim, pow_pos, pow_mono, le-leb}
+use Rattle.std.specs.Int.Count.{count_leading_zeros}
+use Rattle.std.proofs.lemmas.Nat.{leading_top}
 use Rattle.std.proofs.lemmas.Bool.{lt-leb}
 use Rattle.choice.specs.Choice.{le?}
 use Rattle.class.specs.Log.{logs, log}
@@ -58,3 +60,10 @@ log_ge n s f = ⊎_elim
     (λ (p : n ≤ log s). p)
     (λ (q : log s < n). omega (arith, log_top s (omega (arith, pow_pos n)), pow_mono {i = log s + 1} {j = n} (omega arith)))
     (le? n (log s))
+
+-- as the machine counts it, by the zeros above the highest bit
+pub log_code : (s : ℕ) → 0 < s → s < 2 ^ 64 → (count_leading_zeros 64 s ≤ 63) × (63 - count_leading_zeros 64 s ≡ log s)
+log_code s h f =
+    let t = leading_top 64 s h f in
+    let e : 63 - count_leading_zeros 64 s ≡ t.0 = omega (arith, t.1) in
+    (omega (arith, t.1), e ∙ sym (log_is s t.0 t.2 (rw add-one t.3)))

@@ -27,3 +27,13 @@ turned_is g =
     let a : 32 * g / 32 ≡ g = omega arith in
     let b : 32 * g % 32 ≡ 0 = omega arith in
     rw (a, b) (omega arith)
+
+-- it is no longer than the word
+pub turned_fits : (v : ℕ) → v < 18446744073709551616 → v / 32 + v % 32 * 576460752303423488 < 18446744073709551616
+turned_fits v h =
+    let a : v / 32 < 576460752303423488 = omega arith in
+    let b : v % 32 ≤ 31 = omega arith in
+    fits (v / 32) (v % 32) a b
+  where
+    fits : (q r : ℕ) → q < 576460752303423488 → r ≤ 31 → q + r * 576460752303423488 < 18446744073709551616
+    fits q r a b = omega arith

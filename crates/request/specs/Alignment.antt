@@ -1,12 +1,13 @@
 -- Alignments that a caller may ask for, and what they are in half grains. A power of two is below another one, or a
 -- multiple of it: so what stands below 16 is one half grain, 16 is one, and from 32 on an alignment is an even number.
-use Rattle.std.specs.Prelude.{ℕ, ◌+◌, ◌-◌, ◌*◌, ◌/◌, ◌%◌, ◌^◌, ◌≤◌, ◌<◌, ◌≡◌, ◌⊎◌}
+use Rattle.std.specs.Prelude.{ℕ, ◌+◌, ◌-◌, ◌*◌, ◌/◌, ◌%◌, ◌^◌, ◌≤◌, ◌<◌, ◌≡◌, Bool, true, false, ◌⊎◌}
 use Rattle.std.proofs.Math.Nat.{mul-mod_left}
 use Rattle.std.proofs.Common.{mul_assoc, div-add-mod', arith, ap, sym, subst, ◌∙◌, inl, inr, ⊎_elim, pow-add}
 use Rattle.std.specs.Int.Bits.{bit_and}
 use Rattle.std.proofs.lemmas.Nat.{and_mask}
 use Rattle.std.proofs.Math.Pow.{pow-lt}
 use Rattle.choice.specs.Choice.{le?}
+use Rattle.choice.specs.Says.{Says}
 use Rattle.align.specs.Align.{Power}
 use Rattle.align.proofs.Align.{power_pos}
 use Rattle.definition.specs.Units.{multiple as multiple_of}
@@ -68,3 +69,14 @@ multiple_bytes a p = ⊎_elim
     (λ (h : a < 2 ^ 4). omega arith)
     (λ (h : a % 2 ^ 4 ≡ 0). omega (arith, power_pos a p))
     (power_beside 4 a p)
+
+-- ---- the test, as the code makes it
+
+-- above the largest there is none
+pub above_most : (a : ℕ) → 4096 < a → Alignment a → ⊥
+above_most a h l = omega (arith, l.most)
+
+-- below it a power of two is one
+pub below_most : (a : ℕ) (b : Bool) → a ≤ 4096 → Says (Power a) b → Says (Alignment a) b
+below_most a true h s = record { power = s; most = h }
+below_most a false h s = λ l. s l.power

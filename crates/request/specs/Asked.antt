@@ -42,6 +42,18 @@ wanted_bytes n a p = omega (arith, multiple_bytes a p)
 
 -- ---- as the code has it
 
+-- no alignment
+pub asked_no_alignment : (n a : ℕ) → (Alignment a → ⊥) → InRange n a → ⊥
+asked_no_alignment n a h r = h r.alignment
+
+-- too long, by the last multiple of 32 in 64 bits
+pub asked_too_long : (n a m : ℕ) → m ≡ multiple_of 16 a → end - 16 * m < n → InRange n a → ⊥
+asked_too_long n a m e h r = omega (arith, multiple_bytes a r.alignment.power, r.fits)
+
+-- no sum leaves 64 bits
+pub asked_small : (a m : ℕ) → Alignment a → m ≡ multiple_of 16 a → 16 * m ≤ 4096
+asked_small a m l e = omega (arith, l.most)
+
 -- in range, with its numbers
 pub asked_numbers :
     (n a m w : ℕ) → Alignment a → m ≡ multiple_of 16 a → n ≤ end - 16 * m → w ≡ grains (halves 16 n + m)

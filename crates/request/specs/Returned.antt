@@ -46,6 +46,10 @@ Returned x a r = MatchResult r (Stands x a) (Wrong x a)
 
 -- ---- as the code has it
 
+-- no alignment
+pub unsuited_none : (x a : ℕ) → (Alignment a → ⊥) → Suits x a → ⊥
+unsuited_none x a h s = h s.alignment
+
 -- it doesn't divide the offset
 pub unsuited_rest : (x a : ℕ) → (bit_and x (a - 1) ≡ 0 → ⊥) → Suits x a → ⊥
 unsuited_rest x a h s = h (rest_masked x a s.alignment.power ∙ s.divides)
@@ -69,6 +73,10 @@ returned_large x a l d h =
       kind = inr k;
       number = refl;
     }
+
+-- a small alignment for an offset of the large kind
+pub unsuited_kind : (x a : ℕ) → a < 32 → Large x → Suits x a → ⊥
+unsuited_kind x a h k s = omega (arith, s.large k)
 
 -- a small alignment suits whatever it divides, but for the large kind
 suits_small : (x a : ℕ) → Alignment a → bit_and x (a - 1) ≡ 0 → a < 32 → (Large x → ⊥) → Suits x a
