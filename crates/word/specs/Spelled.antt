@@ -1,6 +1,7 @@
--- `num` and `puts` for eight and for four bytes, spelled out byte by byte as the code has them. Only the proofs of this
--- crate's functions use these: the code is loop-free so that it compiles to one load or one store, and the laws below
--- say that it is the recursion over the number of bytes all the same.
+-- `num` and `puts` for eight and for four bytes, spelled out byte by byte: the code stores byte by byte, and the number
+-- that it reads by the library's conversion is the sum of the bytes. Only the proofs of this crate's functions use these:
+-- the code is loop-free so that it compiles to one load or one store, and the laws below say that it is the recursion over
+-- the number of bytes all the same.
 use Rattle.std.specs.Prelude.{ℕ, ◌+◌, ◌*◌, ◌/◌, ◌%◌, ◌≡◌, List, get_or, set}
 use Rattle.std.proofs.Common.{add_assoc, arith}
 use Rattle.std.proofs.Math.Nat.{div-div-eq-div-mul}

@@ -9,14 +9,22 @@
 
 ghost use Rattle.std.specs.Prelude.{◌≡◌, ◌+◌, ◌≤◌, ◌<◌, ◌%◌, length, set};
 ghost use Rattle.word.specs.Number.{num, puts};
-ghost use Rattle.word.specs.Spelled.{four_put, eight_put};
+ghost use Rattle.word.specs.Spelled.{four, eight, four_put, eight_put};
 
 // ---- four bytes
 
-// The four bytes at i as one number. Four and eight bytes are read in a line each, which one function for both would not be.
+// The four bytes at i as one number.
 pub fn get4(a: &[u8], i: usize) -> u64
     requires { i + 4 ≤ length a.now }
     ensures { result ≡ num 4 a.now i }
+{
+    get_four(a, i)
+}
+
+// Four and eight bytes are read in a line each, which one function for both would not be.
+fn get_four(a: &[u8], i: usize) -> u64
+    requires { i + 4 ≤ length a.now }
+    ensures { result ≡ four a.now i }
 {
     u64::from(u32::from_le_bytes(*a[i..i + 4].first_chunk().unwrap()))
 }
@@ -52,6 +60,13 @@ fn store(a: &mut [u8], i: usize, v: u64)
 pub fn get(a: &[u8], i: usize) -> u64
     requires { i + 8 ≤ length a.now }
     ensures { result ≡ num 8 a.now i }
+{
+    get_eight(a, i)
+}
+
+fn get_eight(a: &[u8], i: usize) -> u64
+    requires { i + 8 ≤ length a.now }
+    ensures { result ≡ eight a.now i }
 {
     u64::from_le_bytes(*a[i..i + 8].first_chunk().unwrap())
 }

@@ -1,16 +1,7 @@
--- `word::get4`: the four bytes are the first of what stands from i on.
-use Rattle.std.specs.Int.{w32, from_le_bytes}
-use Rattle.std.specs.Prelude.{◌+◌, ◌-◌, drop}
-use Rattle.std.proofs.Common.{arith, ap, ◌∙◌}
-use Rattle.std.proofs.lemmas.List.{take-take}
-use Rattle.std.proofs.lemmas.Option.{MatchOption-at_some}
-use Rattle.word.proofs.Bytes.{four_read}
+-- The sum of four bytes is the number.
+use Rattle.std.proofs.Common.{◌∙◌}
+use Rattle.word.specs.Spelled.{four_is}
 use Rattle.word.proofs.get4.Goals as goal
 
 pub returns : goal.returns
-returns c =
-    let a = c.args.a.now in
-    let i = c.args.i in
-    let first = MatchOption-at_some _ _ _ c.unwrap.ensures c.first_chunk.ensures.cases in
-    c.from.ensures ∙ c.from_le_bytes.ensures ∙ ap (from_le_bytes w32) (first.same ∙ take-take 4 (i + 4 - i) (drop i a) (omega arith))
-    ∙ four_read a i
+returns c = c.get_four.ensures ∙ four_is _ _
