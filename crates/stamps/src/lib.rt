@@ -172,7 +172,7 @@ pub fn init(lists: &mut [u64], tags: &mut [u16], regions: &mut [u64])
     requires { 1 ≤ length regions.old }
     ensures { Initial lists.old tags.old regions.old lists.new tags.new regions.new }
 {
-    lists.fill(0);
+    table::fill(lists, 0);
     tags.fill(0);
     table::store(regions, 0, 0);
 }

@@ -46,7 +46,7 @@ pub fn init(lists: &mut [u64], live: &mut [u64], regions: &mut [u64])
     ensures { Initial lists.old live.old regions.old lists.new live.new regions.new }
 {
     empty_lists(lists);
-    live.fill(0);
+    table::fill(live, 0);
     table::store(regions, 0, 0);
 }
 
@@ -55,6 +55,6 @@ fn empty_lists(lists: &mut [u64])
     requires { map_words + list_count ≤ length lists.old }
     ensures { lists.new ≡ empty_lists lists.old }
 {
-    lists[..MAP_WORDS].fill(0);
-    lists[MAP_WORDS..MAP_WORDS + LISTS].fill(NONE);
+    table::fill(&mut lists[..MAP_WORDS], 0);
+    table::fill(&mut lists[MAP_WORDS..MAP_WORDS + LISTS], NONE);
 }

@@ -21,7 +21,7 @@ all_zeros t u l e = record { size = l; zero = λ i. rw e (one_number (length t) 
 
 pub returns : goal.returns
 returns c = record {
-  lists = all_zeros _ _ c.fill.ensures.len (c.fill.ensures.after (λ y e. search rules));
+  lists = all_zeros _ _ (rw c.fill.ensures (length-replicate _ _)) c.fill.ensures;
   tags = all_zeros _ _ c.fill-2.ensures.len (c.fill-2.ensures.after (λ y e. search rules));
   regions = c.store.ensures;
 }

@@ -3,7 +3,6 @@ use native.Mathlib.Omega.{arith}
 use mathlib.Core.Path.{◌≡◌, ap, ◌∙◌}
 use mathlib.Core.List.{◌++◌}
 use lib.ListN.{drop}
-use Rattle.std.proofs.Common.{rules}
 use Rattle.slices.specs.Decode.{head_bytes, top_of}
 use Rattle.tables.specs.Initial.{empty_lists}
 use Rattle.tables.specs.Fill.{filled, filled_length}
@@ -14,7 +13,7 @@ pub returns : goal.returns
 unfolding empty_lists
 returns c =
     let t = c.args.lists.now in
-    let u = c.fill.new.self ++ drop 3 t in
-    let a : u ≡ filled t 0 3 0 = filled_part t c.fill.new.self 0 3 0 (omega (arith, c.requires)) (c.fill.ensures.after (λ y e. search rules)) in
-    let b = filled_part u c.fill-2.new.self 3 192 (top_of head_bytes) (rw a (omega (arith, filled_length t 0 3 0, c.requires))) (c.fill-2.ensures.after (λ y e. search rules)) in
+    let u = c.fill.new.t ++ drop 3 t in
+    let a : u ≡ filled t 0 3 0 = filled_part t c.fill.new.t 0 3 0 (omega (arith, c.requires)) c.fill.ensures in
+    let b = filled_part u c.fill-2.new.t 3 192 (top_of head_bytes) (rw a (omega (arith, filled_length t 0 3 0, c.requires))) c.fill-2.ensures in
     b ∙ ap (λ x. filled x 3 192 (top_of head_bytes)) a
