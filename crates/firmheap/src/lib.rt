@@ -174,7 +174,7 @@ fn lay(
     if regions.len() == 0 {
         return Err(Refusal::TooShort);
     }
-    let p = give::plan_region(arena, lists, regions, place, g, len)?;
+    let p = give::plan_region(arena, lists, regions, usize::from(place), g, len)?;
     give::apply_region(arena, lists, regions, p);
     Ok(p.used)
 }

@@ -10,7 +10,6 @@ ghost use Rattle.bits.specs.Map.{lists as list_count};
 ghost use Rattle.slices.specs.Decode.{grains};
 ghost use Rattle.free_list.specs.Lent.{Long};
 ghost use Rattle.free_list.specs.Written.{Written};
-ghost use Rattle.region.specs.Admit.{asked};
 ghost use Rattle.give.specs.Shown.{last_writes, given_writes, Able, LastAble, LayoutPlanned, RegionPlanned};
 ghost use Rattle.give.specs.Joined.{Joined};
 ghost use Rattle.give.specs.Last.{Row, SeenLast};
@@ -19,7 +18,7 @@ ghost use Rattle.give.specs.Given.{Given};
 use bits::MAP_WORDS;
 use header::NONE;
 use refusal::Refusal;
-use region::{PIECE, Place};
+use region::PIECE;
 
 // The first grain; the pieces of full length with the head that the first of them is put before, of which there may be none;
 // the last piece, if there is one; and how many grains all of them have.
@@ -41,19 +40,19 @@ pub struct Last {
 
 // ---- the plan
 
-// len grains from g on are given at this place.
+// len grains from g on are given; with `behind` 1 the region must begin where another ended.
 pub fn plan_region(
     a: &[u8],
     lists: &[u64],
     regions: &[u64],
-    place: Place,
+    behind: usize,
     g: usize,
     len: usize,
 ) -> Result<Plan, Refusal>
     requires { Long lists.now × (1 ≤ length regions.now) }
-    ensures { RegionPlanned a.now lists.now regions.now (asked place) g len result }
+    ensures { RegionPlanned a.now lists.now regions.now behind g len result }
 {
-    region::admit(regions, place, header::count(a), g, len)?;
+    region::admit(regions, behind, header::count(a), g, len)?;
     if len < PIECE {
         return plan_one(a, lists, g, len);
     }

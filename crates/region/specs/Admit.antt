@@ -1,7 +1,7 @@
 -- Whether a region can be given, on any memory that has this table: the answer is the script's refusal, or the script goes
 -- on to lay out the region (`Answered`). The script is taken in two parts: what is asked before the other regions are
 -- looked at, and from there on (`beside`). Each law is one return of the code.
-use Rattle.std.specs.Prelude.{ℕ, ◌+◌, ◌-◌, ◌/◌, ◌≤◌, ◌<◌, ◌≡◌, Bool, true, false, List, [], length, Result, Ok, Err, ⊤}
+use Rattle.std.specs.Prelude.{ℕ, ◌+◌, ◌-◌, ◌/◌, ◌≤◌, ◌<◌, ◌≡◌, true, false, List, [], length, Result, Ok, Err, ⊤}
 use Rattle.std.proofs.Common.{arith, ap, sym, ◌∙◌}
 use Rattle.choice.specs.Choice.{if_eq, eq_yes, eq_no}
 use Rattle.table.specs.Table.{entry}
@@ -45,10 +45,6 @@ beside behind n c g len r = do
 abbrev pub asked : Place → ℕ
 asked Anywhere = 0
 asked Behind = 1
-
--- a region may begin there, if another ends there or doesn't
-abbrev pub Allowed : Place → Bool → Type 0
-Allowed place meets = asked place ≤ bit meets
 
 -- ---- what the code answers
 
@@ -152,24 +148,23 @@ module _ (t : List ℕ) (n g len count : ℕ) (count_is : count ≡ entry t 0) w
   pub beside_overlap : (behind : ℕ) (r : Refusal) → LookedThrough t n g len count (Err r) → AnsweredBeside t behind n g len (Err r)
   beside_overlap behind r seen m h c = rw (← count_is) (halts m (see_regions n g len count 0 nothing_seen) _ (sym (seen m h)))
 
-  module _ (found : Findings) (seen : LookedThrough t n g len count (Ok found)) where
+  module _ (behind : ℕ) (found : Findings) (seen : LookedThrough t n g len count (Ok found)) where
     -- none ends where it must
-    pub beside_apart : (place : Place) → (Allowed place found.meets → ⊥) → AnsweredBeside t (asked place) n g len (Err Misplaced)
-    beside_apart place far m h c = rw (← count_is)
+    pub beside_apart : bit found.meets < behind → AnsweredBeside t behind n g len (Err Misplaced)
+    beside_apart a m h c = rw (← count_is)
         (goes m (see_regions n g len count 0 nothing_seen) _ (sym (seen m h))
-        ∙ halts m (unless_le 4 (asked place) (bit found.meets)) _ (halts_le m 4 (asked place) (bit found.meets) (omega (arith, far))))
+        ∙ halts m (unless_le 4 behind (bit found.meets)) _ (halts_le m 4 behind (bit found.meets) a))
 
-    module _ (place : Place) (met : Allowed place found.meets) where
-      -- an entry can't be right
-      pub beside_wrong : found.wrong ≡ true → AnsweredBeside t (asked place) n g len (Err Damaged)
-      beside_wrong e m h c = rw (← count_is)
-          (goes m (see_regions n g len count 0 nothing_seen) _ (sym (seen m h))
-          ∙ goes m (unless_le 4 (asked place) (bit found.meets)) _ (gives_le m 4 (asked place) (bit found.meets) met)
-          ∙ halts m (must_eq (bit found.wrong) 0) _ (halts_eq m 5 (bit found.wrong) 0 (λ z. omega (arith, z, ap bit e))))
+    -- an entry can't be right
+    pub beside_wrong : behind ≤ bit found.meets → found.wrong ≡ true → AnsweredBeside t behind n g len (Err Damaged)
+    beside_wrong a e m h c = rw (← count_is)
+        (goes m (see_regions n g len count 0 nothing_seen) _ (sym (seen m h))
+        ∙ goes m (unless_le 4 behind (bit found.meets)) _ (gives_le m 4 behind (bit found.meets) a)
+        ∙ halts m (must_eq (bit found.wrong) 0) _ (halts_eq m 5 (bit found.wrong) 0 (λ z. omega (arith, z, ap bit e))))
 
-      -- nothing is in the way
-      pub beside_clear : found.wrong ≡ false → AnsweredBeside t (asked place) n g len (Ok tt)
-      beside_clear e m h c = rw (← count_is)
-          (goes m (see_regions n g len count 0 nothing_seen) _ (sym (seen m h))
-          ∙ goes m (unless_le 4 (asked place) (bit found.meets)) _ (gives_le m 4 (asked place) (bit found.meets) met)
-          ∙ goes m (must_eq (bit found.wrong) 0) _ (gives_eq m 5 (bit found.wrong) 0 (ap bit e)))
+    -- nothing is in the way
+    pub beside_clear : behind ≤ bit found.meets → found.wrong ≡ false → AnsweredBeside t behind n g len (Ok tt)
+    beside_clear a e m h c = rw (← count_is)
+        (goes m (see_regions n g len count 0 nothing_seen) _ (sym (seen m h))
+        ∙ goes m (unless_le 4 behind (bit found.meets)) _ (gives_le m 4 behind (bit found.meets) a)
+        ∙ goes m (must_eq (bit found.wrong) 0) _ (gives_eq m 5 (bit found.wrong) 0 (ap bit e)))

@@ -119,3 +119,17 @@ module _ (t : List ℕ) (n g len k : ℕ) where
         let q : suc i ≡ i + 1 = omega arith in
         left_over m h ∙ entry_next m n g len (k - (i + 1)) i s e (said f) (h (2 * i + 1) ∙ sym first) (h (2 * i + 2) ∙ sym end) o
         ∙ rw (meets_after e g f.meets, wrong_after n s e f.wrong b w, q)
+
+-- ---- what is wrong with an entry, as the script counts it
+
+-- it has fewer than two grains
+pub wrong_short : (n s e w : ℕ) → (s + 2 ≤ e → ⊥) → 1 ≡ wrong_of n s e w
+wrong_short n s e w h = sym (le_no (s + 2) e (if_le e n w 1) 1 h)
+
+-- it has two, and ends outside the arena
+pub wrong_outside : (n s e w : ℕ) → s + 2 ≤ e → (e ≤ n → ⊥) → 1 ≡ wrong_of n s e w
+wrong_outside n s e w a b = sym (le_yes (s + 2) e (if_le e n w 1) 1 a ∙ le_no e n w 1 b)
+
+-- nothing
+pub wrong_not : (n s e w : ℕ) → s + 2 ≤ e → e ≤ n → w ≡ wrong_of n s e w
+wrong_not n s e w a b = sym (le_yes (s + 2) e (if_le e n w 1) 1 a ∙ le_yes e n w 1 b)

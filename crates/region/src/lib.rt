@@ -16,7 +16,7 @@ ghost use Rattle.region.specs.Piece.{Placeable};
 ghost use Rattle.region.specs.Pieces.{full_writes, Layable};
 ghost use Rattle.region.specs.Entered.{with_region};
 ghost use Rattle.region.specs.Look.{Overlap, Wrong, LookedThrough};
-ghost use Rattle.region.specs.Admit.{asked, Allowed, Answered, AnsweredBeside};
+ghost use Rattle.region.specs.Admit.{asked, Answered, AnsweredBeside};
 
 use header::{BEFORE, NONE, SENTINEL, SIZE};
 use refusal::Refusal;
@@ -31,14 +31,14 @@ pub enum Place {
     Behind,
 }
 
-impl Place {
-    // Whether a region may begin where another ends, or where none does.
-    fn allows(self, meets: bool) -> bool
-        ensures { Says (Allowed self meets) result }
-    {
-        match self {
-            Place::Anywhere => true,
-            Place::Behind => meets,
+// The number that asks for it.
+impl From<Place> for usize {
+    ghost from_gives = { λ place n. n ≡ asked place };
+
+    fn from(place: Place) -> usize {
+        match place {
+            Place::Anywhere => 0,
+            Place::Behind => 1,
         }
     }
 }
@@ -52,10 +52,10 @@ pub struct Findings {
     pub wrong: bool,
 }
 
-// Whether len grains from g on can be given at this place, in an arena of n.
-pub fn admit(regions: &[u64], place: Place, n: usize, g: usize, len: usize) -> Result<(), Refusal>
+// Whether len grains from g on can be given, in an arena of n. With `behind` 1 the region must begin where another ended.
+pub fn admit(regions: &[u64], behind: usize, n: usize, g: usize, len: usize) -> Result<(), Refusal>
     requires { 1 ≤ length regions.now }
-    ensures { Answered regions.now (asked place) n g len result }
+    ensures { Answered regions.now behind n g len result }
 {
     let count = number(regions, 0);
     let most = (regions.len() - 1) / 2;
@@ -74,22 +74,22 @@ pub fn admit(regions: &[u64], place: Place, n: usize, g: usize, len: usize) -> R
     if most < count {
         return Err(Refusal::Damaged);
     }
-    admit_beside(regions, place, n, g, len)
+    admit_beside(regions, behind, n, g, len)
 }
 
 // The same, where the region is inside the arena and the table has room for it: the other regions are looked at.
 fn admit_beside(
     regions: &[u64],
-    place: Place,
+    behind: usize,
     n: usize,
     g: usize,
     len: usize,
 ) -> Result<(), Refusal>
     requires { (2 * entry regions.now 0 + 1 ≤ length regions.now) × (g + len ≤ n) }
-    ensures { AnsweredBeside regions.now (asked place) n g len result }
+    ensures { AnsweredBeside regions.now behind n g len result }
 {
     let found = look(regions, n, g, len, number(regions, 0))?;
-    if !place.allows(found.meets) {
+    if usize::from(found.meets) < behind {
         return Err(Refusal::Misplaced);
     }
     if found.wrong {
