@@ -2,8 +2,9 @@
 -- list, and a block in use behind it in the arena, whose link leads back. The script checks before the last of these that
 -- what is next leads back; the code does so behind all else, and since each check refuses with 5, the answer is the same.
 -- Each law is one return of the code.
-use Rattle.std.specs.Prelude.{ℕ, suc, ◌+◌, ◌*◌, ◌≤◌, ◌<◌, ◌≡◌, refl, true, List, length, Option, Some, None, is_some, unwrap_or, Result, Ok, Err, IfOk}
+use Rattle.std.specs.Prelude.{ℕ, suc, ◌+◌, ◌*◌, ◌≤◌, ◌<◌, ◌≡◌, refl, Bool, true, false, List, length, Option, Some, None, is_some, unwrap_or, Result, Ok, Err, IfOk}
 use Rattle.std.proofs.Common.{arith, ap, sym, ◌∙◌, true≢false}
+use Rattle.choice.specs.Says.{Says}
 use Rattle.word.specs.Word.{word_at}
 use Rattle.table.specs.Table.{entry}
 use Rattle.bits.specs.Map.{map_words, lists}
@@ -72,6 +73,15 @@ back_then n f y s x = do
 -- a block in use is at z, behind the block at y
 abbrev pub IsBounded : List ℕ → ℕ → ℕ → Type 0
 IsBounded a y z = (busy_of (word_of (size_at 8 a z)) ≡ true) × (link_at 8 a Before 0 z ≡ y)
+
+-- two facts, of which the first is known
+pub both_say : (P Q : Type 0) (r : Bool) → P → Says Q r → Says (P × Q) r
+both_say P Q true p q = (p, q)
+both_say P Q false p q = λ b. q b.1
+
+-- no block in use is there
+pub idle_not : (a : List ℕ) (y z : ℕ) (r : Bool) → r ≡ busy_of (word_of (size_at 8 a z)) → r ≡ false → IsBounded a y z → ⊥
+idle_not a y z r e n b = true≢false (sym b.0 ∙ sym e ∙ n)
 
 -- the first block of list k, for what follows the checks
 pub record FirstSeen (a : List ℕ) (k : ℕ) (r : First) : Type 0 where

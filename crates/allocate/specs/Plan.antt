@@ -28,7 +28,7 @@ use Rattle.free_list.specs.Back.{Back, reading_prev, back_yes, back_no}
 use Rattle.allocate.specs.declared.Plan.{Plan}
 use Rattle.allocate.specs.declared.First.{First}
 use Rattle.carve.specs.declared.Rest.{Rest}
-use Rattle.allocate.specs.First.{first_then, back_then, back_refused, FirstSeen, ChecksFirst, SeenFirst}
+use Rattle.allocate.specs.First.{first_then, back_then, back_refused, ChecksFirst, SeenFirst}
 use Rattle.allocate.specs.Rest.{left_writes, RestSeen, SeenRest}
 
 -- ---- what a plan says
@@ -113,9 +113,9 @@ module _ (a l : List ℕ) (k : ℕ) (o : First) (p u d m : ℕ) (e : d ≡ place
     }
 
     -- all agrees, and there is room
-    pub cut_made : (w : Rest) → 0 < u → Room k l → Back a Prev o.next o.at → FirstSeen a k o → wanted p u ≤ o.grains → RestSeen a l k o.next o.grains m w
+    pub cut_made : (w : Rest) → 0 < u → Room k l → Back a Prev o.next o.at → Holds a o.at o.next no_link → o.at + o.grains < grains 8 a → wanted p u ≤ o.grains → RestSeen a l k o.next o.grains m w
         → Cuts a l k o p u (Ok (record { list = k; at = o.at; grains = o.grains; next = o.next; place = d; keep = m; rest_list = w.list; head = w.head }))
-    cut_made w h g f t j s =
+    cut_made w h g f t x j s =
         let n = keeps_within u o.at p o.grains d m h e q j in
         let b = back_leads a o.at o.next f in record {
           answers = λ v t.
@@ -127,12 +127,12 @@ module _ (a l : List ℕ) (k : ℕ) (o : First) (p u d m : ℕ) (e : d ≡ place
           bounds = record {
             list = g;
             next = b;
-            holds = t.holds;
+            holds = t;
             kept = n;
-            block = t.inside;
+            block = x;
             rest = λ c. let z = s.ready c in (record { known = z.0; room = g.room }, z.1 b);
             some = omega (arith, place_some u o.at h);
-            pad = omega (arith, n, t.inside);
+            pad = omega (arith, n, x);
           };
         }
 

@@ -20,7 +20,7 @@ use Rattle.slices.proofs.Slices.{memory_size}
 use Rattle.header.specs.Turned.{turned}
 use Rattle.header.specs.Told.{free_of, busy_of}
 use Rattle.free_list.specs.Lent.{lent, held, classes, no_link, link, Holds, link_none, link_some, link_grain}
-use Rattle.free_list.specs.Seen.{SeenEntry}
+use Rattle.free_list.specs.Seen.{shown_entry, SeenEntry}
 use Rattle.refusal.specs.Answered.{answered_as}
 use Rattle.refusal.specs.declared.Refusal.{Refusal}
 use Rattle.refusal.specs.declared.Refusal.TheVariants.{Damaged}
@@ -42,6 +42,11 @@ pub record SeenListed (a l : List ℕ) (t y : ℕ) (r : Result Neighbour Refusal
   pub answer : (v o : List ℕ) → answered_as (linked a) r ≡ run (held a l v o) (see_listed (grains 8 a) t y)
   pub block : IfOk r (λ e. (e.grains ≡ t) × Block a y e)
 
+-- of t grains in list k, with the links of the entry; or its refusal
+abbrev pub listed_of : ℕ → ℕ → Result EntryAnswer Refusal → Result Neighbour Refusal
+listed_of t k (Ok e) = Ok (record { grains = t; list = k; next = e.next; prev = e.prev })
+listed_of t k (Err r) = Err r
+
 module _ (a l : List ℕ) (t y k : ℕ) (j : k ≡ list_of t) where
   -- the size has no list
   pub listed_none : lists ≤ k → SeenListed a l t y (Err Damaged)
@@ -58,17 +63,20 @@ module _ (a l : List ℕ) (t y k : ℕ) (j : k ≡ list_of t) where
         goes m (must_list classes t) _ (gives_le m 5 (suc (list_of t)) lists (omega arith))
         ∙ ap (λ (i : ℕ). run m (see_entry (grains 8 a) i y >>= (λ e. done (somebody t e)))) (sym j)
 
+    -- on any one memory
+    pub listed_entry : (v o : List ℕ) (r : Result EntryAnswer Refusal) → shown_entry a r ≡ run (held a l v o) (see_entry (grains 8 a) k y)
+        → answered_as (linked a) (listed_of t k r) ≡ run (held a l v o) (see_listed (grains 8 a) t y)
+    listed_entry v o (Ok e) q = sym (listed v o ∙ goes (held a l v o) (see_entry (grains 8 a) k y) _ (sym q) ∙ gives_done (held a l v o) _)
+    listed_entry v o (Err r) q = sym (listed v o ∙ halts (held a l v o) (see_entry (grains 8 a) k y) _ (sym q))
+
     -- where it doesn't stand
     pub listed_refused : (r : Refusal) → SeenEntry a l k y (Err r) → SeenListed a l t y (Err r)
-    listed_refused r q = record { answer = λ v o. sym (listed v o ∙ halts (held a l v o) (see_entry (grains 8 a) k y) _ (sym (q v o))); block = tt }
+    listed_refused r q = record { answer = λ v o. listed_entry v o (Err r) (q v o); block = tt }
 
     -- where it does
-    pub listed_entry : (e : EntryAnswer) → SeenEntry a l k y (Ok e) → Holds a y e.next e.prev
+    pub listed_found : (e : EntryAnswer) → SeenEntry a l k y (Ok e) → Holds a y e.next e.prev
         → SeenListed a l t y (Ok (record { grains = t; list = k; next = e.next; prev = e.prev }))
-    listed_entry e q w = record {
-      answer = λ v o. sym (listed v o ∙ goes (held a l v o) (see_entry (grains 8 a) k y) _ (sym (q v o)) ∙ gives_done (held a l v o) _);
-      block = (refl, record { list = j; links = w });
-    }
+    listed_found e q w = record { answer = λ v o. listed_entry v o (Ok e) (q v o); block = (refl, record { list = j; links = w }) }
 
 -- ---- what a size word says
 

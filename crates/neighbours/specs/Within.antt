@@ -1,12 +1,14 @@
 -- What was seen of the block of a payload, and of its neighbours, lies in the arena, and their links lead: so what they are
 -- together can be counted and all that is planned can be written.
-use Rattle.std.specs.Prelude.{ℕ, ◌+◌, ◌*◌, ◌≤◌, ◌<◌, ◌≡◌, List, [], length, Option, Some, None, IfNone, Ok}
+use Rattle.std.specs.Prelude.{ℕ, ◌+◌, ◌*◌, ◌≤◌, ◌<◌, ◌≡◌, List, [], length, Option, Some, None, IfSome, IfNone, Ok}
 use Rattle.std.proofs.Common.{arith, ap, sym, ◌∙◌, subst, inl, inr, ⊎_elim}
 use Rattle.choice.specs.Choice.{if_eq, eq_case}
 use Rattle.bits.specs.Map.{lists}
 use Rattle.class.specs.Class.{list_of}
 use Rattle.script.specs.Memory.{Size}
-use Rattle.sound.specs.Checks.{Word, is_free, is_used, word_of}
+use Rattle.script.specs.Script.{run}
+use Rattle.refusal.specs.Answered.{answered_as}
+use Rattle.sound.specs.Checks.{Word, is_free, is_used, word_of, see_owner}
 use Rattle.sound.specs.Checked.{EntryChecked}
 use Rattle.sound.proofs.Checked.{behind_checked, before_checked, owner_checked}
 use Rattle.slices.specs.Decode.{grains, Inside}
@@ -14,7 +16,7 @@ use Rattle.slices.proofs.Arena.{size_inside}
 use Rattle.slices.proofs.Slices.{memory_size}
 use Rattle.free_list.specs.Lent.{lent, held, classes, no_link, link, Leads, Holds}
 use Rattle.free_list.specs.Leading.{leads_valid}
-use Rattle.neighbours.specs.Shown.{owned, linked, grains_of, SeenOwner, SeenBehind, SeenBefore}
+use Rattle.neighbours.specs.Shown.{owned, linked, grains_of, SeenBehind, SeenBefore}
 use Rattle.neighbours.specs.declared.Owner.{Owner as OwnerAnswer}
 use Rattle.neighbours.specs.declared.Neighbour.{Neighbour}
 use Rattle.neighbours.specs.After.{headed}
@@ -26,10 +28,10 @@ size_within a l v t g w e = subst (Inside (grains 8 a) g) (ap word_of (sym (memo
 
 -- ---- the block
 
-pub owner_within : (a v : List ℕ) (q : ℕ) (r : OwnerAnswer) → SeenOwner a v q (Ok r) → (1 ≤ r.grains) × (r.at + r.grains < grains 8 a)
-owner_within a v q r h =
-    let c = owner_checked (held a [] v []) q (owned r) (sym (h [] [])) in
-    let i = size_within a [] v [] r.at (is_used r.grains) c.word in
+pub owner_within : (a l v t : List ℕ) (q : ℕ) (r : OwnerAnswer) → answered_as owned (Ok r) ≡ run (held a l v t) (see_owner q) → (1 ≤ r.grains) × (r.at + r.grains < grains 8 a)
+owner_within a l v t q r h =
+    let c = owner_checked (held a l v t) q (owned r) (sym h) in
+    let i = size_within a l v t r.at (is_used r.grains) c.word in
     (i.0, omega (arith, i.1))
 
 -- ---- its neighbours
@@ -67,10 +69,15 @@ module _ (a l : List ℕ) (s : length a < 18446744073709551616) where
 
 -- ---- a head that was chosen
 
-pub headed_leads : (a : List ℕ) (e : Option Neighbour) (j h : ℕ) → Known a e → Leads a h → Leads a (headed e j h)
+pub headed_leads : (a : List ℕ) (e : Option Neighbour) (j h : ℕ) → IfSome e (λ n. Leads a n.next) → Leads a h → Leads a (headed e j h)
 headed_leads a None j h f i = i
 headed_leads a (Some e) j h f i =
-    eq_case (Leads a) e.prev no_link (if_eq e.list j e.next h) h (λ _. eq_case (Leads a) e.list j e.next h (λ _. f.next) (λ _. i)) (λ _. i)
+    eq_case (Leads a) e.prev no_link (if_eq e.list j e.next h) h (λ _. eq_case (Leads a) e.list j e.next h (λ _. f) (λ _. i)) (λ _. i)
+
+-- what is next of a neighbour that can leave leads
+pub known_next : (a : List ℕ) (e : Option Neighbour) → Known a e → IfSome e (λ n. Leads a n.next)
+known_next a None k = tt
+known_next a (Some e) k = k.next
 
 -- ---- neighbours that can leave
 
@@ -104,4 +111,4 @@ second_stands a (Some e) f y z h = tt
 
 -- the head of a list leads, when both left
 pub both_leads : (a : List ℕ) (e f : Option Neighbour) (k h : ℕ) → Known a e → Known a f → Leads a h → Leads a (headed_both e f k h)
-both_leads a e f k h i j o = headed_leads a f k _ j (headed_leads a e k h i o)
+both_leads a e f k h i j o = headed_leads a f k _ (known_next a f j) (headed_leads a e k h (known_next a e i) o)

@@ -45,7 +45,7 @@ pub owner_holds : (a v : List ℕ) (q : ℕ) (o : OwnerAnswer) → SeenOwner a v
 owner_holds a v q o h =
     let c = owner_checked (held a [] v []) q (owned o) (sym (h [] [])) in
     record {
-      inside = (owner_within a v q o h).1;
+      inside = (owner_within a [] v [] q o (h [] [])).1;
       starts = omega (arith, after_start (held a [] v []) q o.at c.found);
       ends = c.inside;
     }

@@ -17,7 +17,7 @@ use Rattle.neighbours.specs.declared.Neighbour.{Neighbour}
 use Rattle.refusal.specs.Number.{number}
 use Rattle.refusal.specs.declared.Refusal.{Refusal}
 use Rattle.neighbours.specs.Shown.{seen_of}
-use Rattle.neighbours.specs.Leaving.{Linked, Known}
+use Rattle.neighbours.specs.Leaving.{Known}
 use Rattle.slide.specs.declared.Plan.{Plan as SlidePlan}
 use Rattle.slide.specs.Shown.{Able, Makeable, Slides, both_left, down_writes, slid, down_keep, makeable_keep}
 use Rattle.reallocate.specs.Left.{halves_inside}
@@ -30,7 +30,7 @@ place_of r = 2 * r.at + r.place
 -- the slices have room for all that is written, and for the u half grains that are carried from q on
 pub record Ready (a l v : List ℕ) (q u : ℕ) (r : SlidePlan) : Type 0 where
   pub behind : Known a r.behind
-  pub before : Linked a r.before
+  pub before : Known a r.before
   pub makeable : Makeable a r
   pub lists : Long l
   pub old : q < 64 * length v

@@ -1,6 +1,6 @@
 -- A plan of the code, as the script answers it: the writes, spelled from the plan's numbers, in two parts; or a refusal; or
 -- that the payload has to go elsewhere; and what makes the writes possible.
-use Rattle.std.specs.Prelude.{ℕ, ◌+◌, ◌-◌, ◌*◌, ◌/◌, ◌≤◌, ◌<◌, ◌≡◌, List, [], ◌∷◌, ◌++◌, length, Option, Some, None, IfSome, Result, Ok, Err, IfOk, IfErr}
+use Rattle.std.specs.Prelude.{ℕ, ◌+◌, ◌-◌, ◌*◌, ◌/◌, ◌≤◌, ◌<◌, ◌≡◌, List, [], ◌∷◌, ◌++◌, length, Option, Some, None, IfSome, IsSome, Result, Ok, Err, IfOk, IfErr}
 use Rattle.std.proofs.Common.{ap, sym}
 use Rattle.bits.specs.Map.{lists}
 use Rattle.definition.specs.Calls.{place, keeps}
@@ -16,7 +16,7 @@ use Rattle.slices.proofs.Decode.{grains_keep}
 use Rattle.free_list.specs.Lent.{held, classes, link, Leads, link_keep, leads_keep}
 use Rattle.neighbours.specs.declared.Neighbour.{Neighbour}
 use Rattle.neighbours.specs.Shown.{seen_of, grains_of}
-use Rattle.neighbours.specs.Leaving.{Linked, Known, both_leaving}
+use Rattle.neighbours.specs.Leaving.{Known, both_leaving}
 use Rattle.carve.specs.Made.{left_behind}
 use Rattle.slide.specs.declared.Plan.{Plan as PlanAnswer}
 use Rattle.carve.specs.declared.Rest.{Rest}
@@ -33,7 +33,7 @@ down_writes a q r = left_behind r.at r.grains r.keep r.list (link a r.head) ++ t
 
 -- both parts, where u half grains at q may have to be carried between them
 abbrev pub both_left : List ℕ → PlanAnswer → List Write
-both_left a r = both_leaving a r.behind (Some r.before)
+both_left a r = both_leaving a r.behind r.before
 
 abbrev pub slid : List ℕ → ℕ → ℕ → PlanAnswer → Plan
 slid a q u r = record { answer = 2 * r.at + r.place; writes = both_left a r ++ down_writes a q r; moved = u; early = length (both_left a r) }
@@ -77,10 +77,11 @@ makeable_keep a b r e h = record {
   pad = rw (grains_keep 8 a b e) h.pad;
 }
 
--- and both, with what the block keeps for p half grains
+-- and both, with what the block keeps for p half grains; there is a neighbour before it
 pub record Able (a : List ℕ) (p : ℕ) (r : PlanAnswer) : Type 0 where
   pub behind : Known a r.behind
-  pub before : Linked a r.before
+  pub before : Known a r.before
+  pub there : IsSome r.before
   pub makeable : Makeable a r
   pub keep : r.keep ≡ keeps r.place p
 

@@ -110,7 +110,7 @@ module _ (a l : List ℕ) (z t : ℕ) (e : Option Neighbour) (f : Neighbour) (d 
 
     -- all agrees
     pub down_made : (y : Rest) → SeenRest a l t k e (Some f) (Ok y) → 0 < d → z + t < grains 8 a → Known a e → Linked a f
-        → Downs a l z t e f d p (Ok (Some (record { at = z; grains = t; behind = e; before = f; place = d; keep = k; list = y.list; head = y.head })))
+        → Downs a l z t e f d p (Ok (Some (record { at = z; grains = t; behind = e; before = Some f; place = d; keep = k; list = y.list; head = y.head })))
     down_made y s pos inside ke kf = record {
       answers = λ q u m i v o.
           ap (λ (w : List Write). ok (record { answer = 2 * z + d; moved = u; early = length gone; writes = w })) (sym (append_assoc gone (left_behind z t k y.list (link a y.head)) (turn_writes q z d)))
@@ -119,6 +119,7 @@ module _ (a l : List ℕ) (z t : ℕ) (e : Option Neighbour) (f : Neighbour) (d 
       able = record {
         behind = ke;
         before = kf;
+        there = refl;
         makeable = record { inside = inside; kept = h; rest = s.ready; some = pos; pad = omega (arith, j, keeps_holds d p) };
         keep = j;
       };

@@ -1,9 +1,10 @@
 -- What is written when the bytes were carried: the block is made, and then its payload is live where it is now, and not
 -- where it was.
-use Rattle.std.specs.Prelude.{ℕ, ◌+◌, ◌*◌, ◌≡◌, refl, List, [], ◌∷◌}
+use Rattle.std.specs.Prelude.{ℕ, ◌+◌, ◌*◌, ◌<◌, ◌≡◌, refl, List, [], ◌∷◌, length}
 use Rattle.std.proofs.Common.{arith, ap, sym, ◌∙◌, subst, append_assoc}
 use Rattle.choice.specs.Choice.{eq_yes, eq_no}
 use Rattle.bits.specs.TableBit.{clear_table_bit, set_table_bit}
+use Rattle.bits.proofs.TableBit.{clear_table_length}
 use Rattle.script.specs.Memory.{Live, Write, ◌at◌≔◌}
 use Rattle.sound.specs.Plans.{pad_writes}
 use Rattle.slices.specs.Slices.{stores}
@@ -12,6 +13,10 @@ use Rattle.free_list.specs.Written.{Written, WrittenLive, live_then, written_the
 use Rattle.carve.specs.Made.{WrittenInArena, left_behind}
 use Rattle.slide.specs.declared.Plan.{Plan as PlanAnswer}
 use Rattle.slide.specs.Shown.{down_writes}
+
+-- a bit that is cleared leaves room for all others
+pub cleared_room : (v o : List ℕ) (q i : ℕ) → o ≡ clear_table_bit v q → i < 64 * length v → i < 64 * length o
+cleared_room v o q i e h = rw (ap length e ∙ clear_table_length v q) h
 
 -- all of it
 pub moved_down : (a l v b m c o i : List ℕ) (q : ℕ) (r : PlanAnswer) → Written a l (left_behind r.at r.grains r.keep r.list (link a r.head)) b m

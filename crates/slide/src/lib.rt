@@ -5,7 +5,7 @@
 
 #![tactic(auto)]
 
-ghost use Rattle.std.specs.Prelude.{◌≡◌, Some, ◌+◌, ◌*◌, ◌^◌, ◌≤◌, ◌<◌, length as length_of};
+ghost use Rattle.std.specs.Prelude.{◌≡◌, ◌+◌, ◌*◌, ◌^◌, ◌≤◌, ◌<◌, length as length_of};
 ghost use Rattle.align.specs.Align.{Power};
 ghost use Rattle.slices.specs.Decode.{grains};
 ghost use Rattle.free_list.specs.Lent.{Long};
@@ -27,7 +27,7 @@ pub struct Plan {
     pub at: usize,
     pub grains: usize,
     pub behind: Option<Neighbour>,
-    pub before: Neighbour,
+    pub before: Option<Neighbour>,
     pub place: usize,
     pub keep: usize,
     pub list: usize,
@@ -84,7 +84,7 @@ fn plan_down(
         at: z,
         grains: t,
         behind,
-        before,
+        before: Some(before),
         place,
         keep,
         list: rest.list,
@@ -124,11 +124,11 @@ fn see_rest(
 
 // Both neighbours leave their lists: the bytes of the payload are carried after that.
 pub fn apply_leaving(a: &mut [u8], lists: &mut [u64], p: Plan)
-    requires { Known a.old p.behind × Linked a.old p.before × Long lists.old }
-    ensures { Written a.old lists.old (both_leaving a.old p.behind (Some p.before))
+    requires { Known a.old p.behind × Known a.old p.before × Long lists.old }
+    ensures { Written a.old lists.old (both_leaving a.old p.behind p.before)
         a.new lists.new }
 {
-    neighbours::leave_both(a, lists, p.behind, Some(p.before));
+    neighbours::leave_both(a, lists, p.behind, p.before);
 }
 
 // The block is made where the bytes are now; the payload that was at q is live there.

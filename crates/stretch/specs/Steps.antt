@@ -23,7 +23,7 @@ use Rattle.neighbours.specs.declared.Neighbour.{Neighbour}
 use Rattle.neighbours.specs.Shown.{seen_of, grains_of, SeenBehind}
 use Rattle.neighbours.specs.After.{headed, leaving_of}
 use Rattle.neighbours.specs.Leaving.{room_is, leaves_is, one_head}
-use Rattle.neighbours.specs.Within.{Behind, headed_leads}
+use Rattle.neighbours.specs.Within.{Behind, headed_leads, known_next}
 use Rattle.carve.specs.Left.{left_nothing, left_unlisted, left_headless, left_listed}
 use Rattle.stretch.specs.declared.Plan.{Plan as PlanAnswer}
 use Rattle.stretch.specs.declared.Plan.TheVariants.{Same, Fitted, Short}
@@ -110,7 +110,7 @@ module _ (a l : List ℕ) (x s m : ℕ) (e : Option Neighbour) (b : Behind a x s
             behind = b.known;
             inside = b.inside;
             kept = f;
-            rest = λ _. (h, headed_leads a e k y b.known (head_leads a l k y t z));
+            rest = λ _. (h, headed_leads a e k y (known_next a e b.known) (head_leads a l k y t z));
           },
         );
       }

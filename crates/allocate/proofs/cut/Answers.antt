@@ -18,4 +18,4 @@ returns-then-not-leads_back c =
 pub returns : goal.returns
 returns c =
     cut_made c.args.a.now c.args.lists.now c.args.list c.args.first c.args.length c.args.multiple c.place_of-place.result c.keeps_of-keep.result c.place_of-place.ensures c.keeps_of-keep.ensures
-    c.well_formed.0.0 c.in_ok-rest.rest (power_pos c.args.multiple c.requires.0.power) c.requires.1 c.if-not-leads_back.ensures c.requires.2 c.requires.3 c.in_ok-rest.ensures
+    c.well_formed.0.0 c.in_ok-rest.rest (power_pos c.args.multiple c.requires.0.power) c.requires.1 c.if-not-leads_back.ensures c.requires.2.holds c.requires.2.inside c.requires.3 c.in_ok-rest.ensures

@@ -1,5 +1,6 @@
 -- `deallocate::plan_back`: refused as its owner is refused, or all hangs on the block that was found.
 use mathlib.Core.Path.{◌∙◌}
+use Rattle.std.specs.Prelude.{[]}
 use Rattle.std.proofs.lemmas.Result.{err_from_is_err_and}
 use Rattle.neighbours.specs.Within.{owner_within}
 use Rattle.deallocate.specs.Join.{back_refused, back_found}
@@ -13,7 +14,7 @@ returns-in_err-o c =
 
 pub plan_merge-requires : goal.plan_merge-requires
 plan_merge-requires c =
-    let i = owner_within c.args.a.now c.args.live.now c.args.q c.in_ok-o.o c.in_ok-o.ensures in
+    let i = owner_within c.args.a.now [] c.args.live.now [] c.args.q c.in_ok-o.o (c.in_ok-o.ensures [] []) in
     (i.0, i.1, c.requires.2)
 
 pub returns : goal.returns

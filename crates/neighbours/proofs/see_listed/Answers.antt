@@ -2,7 +2,7 @@
 use native.Mathlib.Omega.{arith}
 use Rattle.std.proofs.lemmas.Result.{err_from_is_err_and}
 use Rattle.header.specs.Turned.{grains_few}
-use Rattle.neighbours.specs.Beside.{listed_none, listed_refused, listed_entry}
+use Rattle.neighbours.specs.Beside.{listed_none, listed_refused, listed_found}
 use Rattle.neighbours.proofs.see_listed.Goals as goal
 
 pub map_floor-list-requires : goal.map_floor-list-requires
@@ -23,4 +23,4 @@ returns-in_err-e c =
 pub returns : goal.returns
 returns c =
     let s = c.args in
-    listed_entry s.a.now s.lists.now s.t s.y c.map_floor-list.result c.map_floor-list.ensures c.if-list-ge-LISTS.false c.in_ok-e.e c.in_ok-e.ensures.0 c.in_ok-e.ensures.1
+    listed_found s.a.now s.lists.now s.t s.y c.map_floor-list.result c.map_floor-list.ensures c.if-list-ge-LISTS.false c.in_ok-e.e c.in_ok-e.ensures.0 c.in_ok-e.ensures.1
