@@ -20,10 +20,10 @@ returns-in_err-p c =
     let s = c.args in
     let p = err_from_is_err_and c.from_residual.result c.from_residual.ensures.1 in
     rw (p.1, p.2) (lay_refused _ _ _ (asked s.place) s.g s.len (omega (arith, c.lists_length.ensures, c.if-lists-lists_length.false), omega (arith, c.if-regions-eq0.false))
-    c.in_err-p.field-0.0 c.in_err-p.ensures)
+    c.in_err-p.field-0.0 (rw c.from.ensures at c.in_err-p.ensures))
 
 pub returns : goal.returns
 returns c =
     let s = c.args in
     lay_done _ _ _ (asked s.place) s.g s.len (omega (arith, c.lists_length.ensures, c.if-lists-lists_length.false), omega (arith, c.if-regions-eq0.false))
-    c.in_ok-p.p c.in_ok-p.ensures _ _ _ c.apply_region.ensures
+    c.in_ok-p.p (rw c.from.ensures at c.in_ok-p.ensures) _ _ _ c.apply_region.ensures
