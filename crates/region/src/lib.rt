@@ -31,7 +31,7 @@ pub enum Place {
     Behind,
 }
 
-// The number that asks for it.
+// Its number, as `admit` takes it.
 impl From<Place> for usize {
     ghost from_gives = { λ place n. n ≡ asked place };
 
