@@ -1,8 +1,7 @@
 // The lines of the input.
-use std::alloc::{AllocError, Global};
 use std::error::Error;
 use std::fmt;
-use std::io::{BufRead, Read};
+use std::io::Read;
 
 // Room for a line: six numbers of at most 20 digits and five spaces are 125, and its end is one more.
 const LINE: usize = 128;
@@ -31,36 +30,49 @@ impl Error for Fault {}
 
 // An input, and the line that was read last.
 #[derive(Drop)]
-pub struct Lines<R> {
+pub struct Lines<'a, R> {
     source: R,
-    line: Vec<u8>,
+    // Lent, with the part from `at` to `end` not used yet: a BufReader or a Vec would need memory, and the program takes none.
+    chunk: &'a mut [u8],
+    at: usize,
+    end: usize,
+    line: [u8; LINE],
 }
 
-impl<R: BufRead> Lines<R> {
-    // All memory that the lines need is taken here.
-    pub fn new(alloc: Global, source: R) -> Result<Lines<R>, AllocError>
-    where
-        R: Drop,
-    {
-        let line = Vec::with_capacity(alloc, LINE)?;
-        Ok(Lines { source, line })
+impl<'a, R: Read> Lines<'a, R> {
+    pub fn new(source: R, chunk: &'a mut [u8]) -> Lines<'a, R> {
+        Lines {
+            source,
+            chunk,
+            at: 0,
+            end: 0,
+            line: [0; LINE],
+        }
     }
 
     // The next line without its line end, or none at the input's end. The last one may lack its line end.
     pub fn next_line(&mut self) -> Result<Option<&[u8]>, Fault> {
-        self.line.clear();
-        let mut source = self.source.by_ref().take(LINE as u64);
-        if source.read_until(b'\n', &mut self.line).is_err() {
-            return Err(Fault::Unreadable);
-        }
-        match self.line.last() {
-            None => Ok(None),
-            Some(b'\n') => {
-                self.line.pop();
-                Ok(Some(&self.line))
+        for n in 0..LINE {
+            match self.next_byte()? {
+                None if n == 0 => return Ok(None),
+                None | Some(b'\n') => return Ok(Some(&self.line[..n])),
+                Some(byte) => self.line[n] = byte,
             }
-            Some(_) if self.line.len() < LINE => Ok(Some(&self.line)),
-            Some(_) => Err(Fault::TooLong),
         }
+        Err(Fault::TooLong)
+    }
+
+    // The next byte, or none at the input's end. Where the chunk is used up it is filled anew.
+    fn next_byte(&mut self) -> Result<Option<u8>, Fault> {
+        if self.at >= self.end {
+            self.end = self.source.read(self.chunk).map_err(|_| Fault::Unreadable)?;
+            self.at = 0;
+        }
+        let at = self.at;
+        if at >= self.end {
+            return Ok(None);
+        }
+        self.at += 1;
+        Ok(self.chunk.get(at).copied())
     }
 }

@@ -15,7 +15,7 @@ use input::Lines;
 use record::Record;
 use report::Score;
 use std::io;
-use std::io::{BufRead, BufReader};
+use std::io::{Input, Read};
 
 // A loop that is proved has to end, and nothing says that the input does. So this many lines are read at most.
 const MOST: u64 = 1000000000;
@@ -34,31 +34,32 @@ const REGIONS: usize = 65;
 const CHUNK: usize = 65536;
 
 fn main(rt: HostRuntime) -> io::Result<()> {
-    let alloc = rt.alloc();
-    let source = BufReader::with_capacity(alloc, CHUNK, rt.reader())?;
-    let lines = Lines::new(alloc, source)?;
-    let mut arena = vec![in alloc; 0; ARENA]?;
-    let mut lists = vec![in alloc; 0; LISTS]?;
-    let mut live = vec![in alloc; 0; LIVE]?;
-    let mut regions = vec![in alloc; 0; REGIONS]?;
-    if let Err(refusal) = firmheap::init(&arena, &mut lists, &mut live, &mut regions) {
-        return report::not_begun(&rt, refusal);
+    let mut arena = [0u8; ARENA];
+    start(&rt, &mut arena)
+}
+
+// The tables are made, and the chunk, in a function of their own: in the one that makes the arena the prover would run out of
+// stack.
+fn start(rt: &(impl Input + Print), arena: &mut [u8; ARENA]) -> io::Result<()> {
+    let mut lists = [0u64; LISTS];
+    let mut live = [0u64; LIVE];
+    let mut regions = [0u64; REGIONS];
+    let mut chunk = [0u8; CHUNK];
+    if let Err(refusal) = firmheap::init(arena, &mut lists, &mut live, &mut regions) {
+        return report::not_begun(rt, refusal);
     }
+    let lines = Lines::new(rt.reader(), &mut chunk);
     let heap = Heap {
-        arena: &mut arena,
+        arena,
         lists: &mut lists,
         live: &mut live,
         regions: &mut regions,
     };
-    replay(&rt, lines, heap)
+    replay(rt, lines, heap)
 }
 
 // All lines, up to the first that says no call.
-fn replay<R: BufRead + Drop>(
-    rt: &impl Print,
-    mut lines: Lines<R>,
-    mut heap: Heap,
-) -> io::Result<()> {
+fn replay<R: Read + Drop>(rt: &impl Print, mut lines: Lines<R>, mut heap: Heap) -> io::Result<()> {
     let mut agreed = 0;
     for made in 0..MOST {
         let score = Score { made, agreed };

@@ -2,7 +2,7 @@
 use crate::call::{Answer, Call};
 use refusal::Refusal;
 use std::error::Error;
-use std::{fmt, str};
+use std::fmt;
 
 #[derive(Clone, Copy, Debug, PartialEq, Eq)]
 pub enum Kind {
@@ -132,14 +132,24 @@ fn next_number(text: &[u8]) -> Result<(u64, &[u8]), Wanted> {
     number(text.strip_prefix(b" ").ok_or(Wanted::Space)?)
 }
 
-// The number at the front of the text, and what is behind it.
+// The number at the front of the text, and what is behind it: in one pass, since each digit of the input goes through here.
 fn number(text: &[u8]) -> Result<(u64, &[u8]), Wanted> {
-    let end = text
-        .iter()
-        .position(|b| !b.is_ascii_digit())
-        .unwrap_or(text.len());
-    let (digits, rest) = text.split_at(end);
-    let digits = str::from_utf8(digits).map_err(|_| Wanted::Number)?;
-    let n = digits.parse::<u64>().map_err(|_| Wanted::Number)?;
-    Ok((n, rest))
+    let mut n: u64 = 0;
+    let mut rest = text;
+    for byte in text {
+        if !byte.is_ascii_digit() {
+            break;
+        }
+        n = n
+            .checked_mul(10)
+            .and_then(|n| n.checked_add(u64::from(byte - b'0')))
+            .ok_or(Wanted::Number)?;
+        rest = rest.get(1..).unwrap_or_default();
+    }
+    let has_digits = rest.len() < text.len();
+    if has_digits {
+        Ok((n, rest))
+    } else {
+        Err(Wanted::Number)
+    }
 }

@@ -1,10 +1,9 @@
 // The blocks of the arena's one region, read off their headers. The walk is the program's own: it starts at the first block
 // and stays inside the arena, whatever the bytes are.
-ghost use Rattle.std.specs.Prelude.{◌-◌, ◌≤◌, length};
+ghost use Rattle.std.specs.Prelude.{◌-◌, length};
 ghost use Rattle.std.specs.Iterator.{at_most};
 
 use crate::threes::Threes;
-use std::alloc::{AllocError, Global};
 use std::fmt;
 
 const GRAIN: usize = 32;
@@ -51,6 +50,16 @@ impl<'a> Walk<'a> {
     pub fn new(arena: &'a [u8]) -> Walk<'a> {
         Walk { arena, at: 0 }
     }
+
+    // Whether the byte at o lies in a block that is used. The walk goes on to that block and no further, so that an o that is
+    // no smaller is found from there: from the first block on, the bars took half of a run.
+    fn is_covered(&mut self, o: usize) -> bool {
+        let Some(block) = self.find(|block| block.span.covers(o)) else {
+            return false;
+        };
+        self.at = block.span.0;
+        block.is_used
+    }
 }
 
 impl<'a> Iterator for Walk<'a> {
@@ -84,32 +93,55 @@ fn word(arena: &[u8], o: usize) -> Option<usize> {
 
 // ---- as text
 
-// The blocks, each with a space behind it.
-pub fn listed(alloc: Global, spans: &[Span]) -> Result<String, AllocError> {
-    let mut text = String::new(alloc);
-    for span in spans {
-        write!(text, "{span} ")?;
+// The free blocks of an arena, each with a space behind it.
+#[derive(Clone, Copy)]
+pub struct Free<'a>(pub &'a [u8]);
+
+impl<'a> Free<'a> {
+    // Whether these are all.
+    pub fn are(self, spans: &[Span]) -> bool {
+        Walk::new(self.0)
+            .filter(|block| !block.is_used)
+            .map(|block| block.span)
+            .eq(spans.iter().copied())
     }
-    Ok(text)
+}
+
+impl fmt::Display for Free<'_> {
+    fn fmt<W: fmt::Write>(&self, f: &mut fmt::Formatter<W>) -> fmt::Result {
+        for block in Walk::new(self.0) {
+            if !block.is_used {
+                write!(f, "{} ", block.span)?;
+            }
+        }
+        Ok(())
+    }
+}
+
+// The blocks, each with a space behind it.
+pub fn list<W: fmt::Write>(f: &mut fmt::Formatter<W>, spans: &[Span]) -> fmt::Result {
+    for span in spans {
+        write!(f, "{span} ")?;
+    }
+    Ok(())
 }
 
 // A character for each cell of the arena's first bytes.
-pub fn bar(alloc: Global, arena: &[u8]) -> Result<String, AllocError> {
-    (0..CELLS).map(|i| cell(arena, CELL * i)).collect(alloc)
-}
+#[derive(Clone, Copy)]
+pub struct Bar<'a>(pub &'a [u8]);
 
-// The character of the two grains at o.
-fn cell(arena: &[u8], o: usize) -> char
-    requires { o ≤ 4096 }
-{
-    match (is_covered(arena, o), is_covered(arena, o + GRAIN)) {
-        (true, true) => '#',
-        (false, false) => '.',
-        _ => '+',
+impl fmt::Display for Bar<'_> {
+    fn fmt<W: fmt::Write>(&self, f: &mut fmt::Formatter<W>) -> fmt::Result {
+        let mut walk = Walk::new(self.0);
+        for i in 0..CELLS {
+            let o = CELL * i;
+            let grains = (walk.is_covered(o), walk.is_covered(o + GRAIN));
+            f.write_str(match grains {
+                (true, true) => "#",
+                (false, false) => ".",
+                _ => "+",
+            })?;
+        }
+        Ok(())
     }
-}
-
-// Whether the byte at o lies in a block that is used.
-fn is_covered(arena: &[u8], o: usize) -> bool {
-    Walk::new(arena).any(|block| block.is_used && block.span.covers(o))
 }

@@ -4,15 +4,16 @@
 #![tactic(auto)]
 
 mod blocks;
+mod column;
 mod rows;
 mod threes;
 
-use blocks::Walk;
+use blocks::{Bar, Free};
+use column::Column;
 use heap::Heap;
 use refusal::Refusal;
 use rows::{Answer, ROWS, Row};
-use std::alloc::{AllocError, Global};
-use std::io;
+use std::{fmt, io};
 
 // The arena's bytes, and the words of the tables that go with it: tables::lists_length(), tables::live_length(ARENA), and a
 // count with two words for each region, of which there is one. Where one is too short, init refuses.
@@ -32,12 +33,11 @@ struct Score {
 }
 
 fn main(rt: HostRuntime) -> io::Result<()> {
-    let alloc = rt.alloc();
+    let mut arena = [0u8; ARENA];
+    let mut lists = [0u64; LISTS];
+    let mut live = [0u64; LIVE];
+    let mut regions = [0u64; REGIONS];
     heading(&rt)?;
-    let mut arena = vec![in alloc; 0; ARENA]?;
-    let mut lists = vec![in alloc; 0; LISTS]?;
-    let mut live = vec![in alloc; 0; LIVE]?;
-    let mut regions = vec![in alloc; 0; REGIONS]?;
     if let Err(refusal) = firmheap::init(&arena, &mut lists, &mut live, &mut regions) {
         return not_begun(&rt, refusal);
     }
@@ -47,7 +47,7 @@ fn main(rt: HostRuntime) -> io::Result<()> {
         live: &mut live,
         regions: &mut regions,
     };
-    let score = run(&rt, alloc, heap)?;
+    let score = run(&rt, heap)?;
     ending(&rt, score)
 }
 
@@ -84,7 +84,7 @@ fn ending(rt: &impl Print, score: Score) -> io::Result<()> {
 }
 
 // All rows, one after the other.
-fn run(rt: &impl Print, alloc: Global, mut heap: Heap) -> io::Result<Score> {
+fn run(rt: &impl Print, mut heap: Heap) -> io::Result<Score> {
     let mut score = Score {
         answers: 0,
         frees: 0,
@@ -94,50 +94,68 @@ fn run(rt: &impl Print, alloc: Global, mut heap: Heap) -> io::Result<Score> {
         if answer == row.answer {
             score.answers += 1;
         }
-        if show(rt, alloc, row, answer, heap.arena)? {
+        let free = Free(heap.arena);
+        let is_right = free.are(row.free);
+        if is_right {
             score.frees += 1;
         }
+        let line = Line {
+            row,
+            answer,
+            free,
+            is_right,
+        };
+        println!(rt; "{line}")?;
     }
     Ok(score)
 }
 
-// Writes the row's line: the call, its answer, the free blocks, the bar, and what should have been, where it was not. Answers
-// whether the free blocks are the row's.
-fn show(
-    rt: &impl Print,
-    alloc: Global,
+// A row's line: the call, its answer, the free blocks, the bar, and what should have been, where it was not.
+#[derive(Clone, Copy)]
+struct Line<'a> {
     row: Row,
     answer: Result<Answer, Refusal>,
-    arena: &[u8],
-) -> io::Result<bool> {
-    let free = Walk::new(arena)
-        .filter(|block| !block.is_used)
-        .map(|block| block.span)
-        .collect::<Vec<_>>(alloc)?;
-    let is_right = free.as_slice() == row.free;
-    let call = row.call.to_string(alloc)?;
-    let said = told(alloc, answer)?;
-    let listed = blocks::listed(alloc, &free)?;
-    let bar = blocks::bar(alloc, arena)?;
-    print!(rt; "{call:<24}{said:<12}{listed:<33}{bar}")?;
-    if answer != row.answer {
-        print!(rt; "  <- DIFFERENT: docs/HEAP.md answers ")?;
-        match row.answer {
-            Ok(wanted) => print!(rt; "{wanted}")?,
-            Err(_) => print!(rt; "refused")?,
-        }
-    }
-    if !is_right {
-        let wanted = blocks::listed(alloc, row.free)?;
-        print!(rt; "  <- DIFFERENT: free must be {wanted}")?;
-    }
-    println!(rt)?;
-    Ok(is_right)
+    free: Free<'a>,
+    is_right: bool,
 }
 
-fn told(alloc: Global, answer: Result<Answer, Refusal>) -> Result<String, AllocError> {
-    match answer {
-        Ok(answer) => answer.to_string(alloc),
-        Err(refusal) => format!(in alloc; "refused ({})", u64::from(refusal)),
+impl fmt::Display for Line<'_> {
+    fn fmt<W: fmt::Write>(&self, f: &mut fmt::Formatter<W>) -> fmt::Result {
+        let Line {
+            row,
+            answer,
+            free,
+            is_right,
+        } = *self;
+        let call = Column(row.call);
+        let said = Column(Said(answer));
+        let listed = Column(free);
+        let bar = Bar(free.0);
+        write!(f, "{call:<24}{said:<12}{listed:<33}{bar}")?;
+        if answer != row.answer {
+            write!(f, "  <- DIFFERENT: docs/HEAP.md answers ")?;
+            match row.answer {
+                Ok(wanted) => write!(f, "{wanted}")?,
+                Err(_) => write!(f, "refused")?,
+            }
+        }
+        if !is_right {
+            write!(f, "  <- DIFFERENT: free must be ")?;
+            blocks::list(f, row.free)?;
+        }
+        Ok(())
+    }
+}
+
+// What was answered.
+#[derive(Clone, Copy)]
+struct Said(Result<Answer, Refusal>);
+
+impl fmt::Display for Said {
+    fn fmt<W: fmt::Write>(&self, f: &mut fmt::Formatter<W>) -> fmt::Result {
+        match self.0 {
+            Ok(answer) => write!(f, "{answer}"),
+            Err(refusal) => write!(f, "refused ({})", u64::from(refusal)),
+        }
     }
 }
