@@ -42,7 +42,7 @@ pub record SeenListed (a l : List ℕ) (t y : ℕ) (r : Result Neighbour Refusal
   pub answer : (v o : List ℕ) → answered_as (linked a) r ≡ run (held a l v o) (see_listed (grains 8 a) t y)
   pub block : IfOk r (λ e. (e.grains ≡ t) × Block a y e)
 
--- of t grains in list k, with the links of the entry; or its refusal
+-- the block of t grains in list k, with the links of its entry; or the refusal of that
 abbrev pub listed_of : ℕ → ℕ → Result EntryAnswer Refusal → Result Neighbour Refusal
 listed_of t k (Ok e) = Ok (record { grains = t; list = k; next = e.next; prev = e.prev })
 listed_of t k (Err r) = Err r
@@ -63,7 +63,7 @@ module _ (a l : List ℕ) (t y k : ℕ) (j : k ≡ list_of t) where
         goes m (must_list classes t) _ (gives_le m 5 (suc (list_of t)) lists (omega arith))
         ∙ ap (λ (i : ℕ). run m (see_entry (grains 8 a) i y >>= (λ e. done (somebody t e)))) (sym j)
 
-    -- on any one memory
+    -- on one memory: what the entry is, the block is
     pub listed_entry : (v o : List ℕ) (r : Result EntryAnswer Refusal) → shown_entry a r ≡ run (held a l v o) (see_entry (grains 8 a) k y)
         → answered_as (linked a) (listed_of t k r) ≡ run (held a l v o) (see_listed (grains 8 a) t y)
     listed_entry v o (Ok e) q = sym (listed v o ∙ goes (held a l v o) (see_entry (grains 8 a) k y) _ (sym q) ∙ gives_done (held a l v o) _)

@@ -122,7 +122,8 @@ fn see_rest(
 
 // ---- what is written
 
-// Both neighbours leave their lists: the bytes of the payload are carried after that.
+// The neighbours leave their lists, those that are there: the bytes of the payload are carried after that. Where `plan_slide`
+// has a plan, one is before.
 pub fn apply_leaving(a: &mut [u8], lists: &mut [u64], p: Plan)
     requires { Known a.old p.behind × Known a.old p.before × Long lists.old }
     ensures { Written a.old lists.old (both_leaving a.old p.behind p.before)
