@@ -137,6 +137,22 @@ pub led_in : (a : List ℕ) (x y : ℕ) → Leads a x → y < grains 8 a → led
 led_in a x y h k = eq_case (λ (z : ℕ). z < grains 8 a) x no_link y (turned x) (λ _. k) (λ n. leads_grain h n)
 
 module _ (a l v : List ℕ) (p : Plan) (r : Ready a l v p) where
+  -- as if the rest went to the block's own list, before none
+  pub none_left : Ready a l v (resting p p.list no_link)
+  none_left = record {
+    bounds = record {
+      list = r.bounds.list;
+      next = r.bounds.next;
+      holds = r.bounds.holds;
+      kept = r.bounds.kept;
+      block = r.bounds.block;
+      rest = λ _. (r.bounds.list, inl refl);
+      some = r.bounds.some;
+      pad = r.bounds.pad;
+    };
+    live = r.live;
+  }
+
   -- what is saved stands in the slices
   pub saved_in : (q h : ℕ) → Room q l → Leads a h → Inside a l v (saved_of a l v (resting p q h))
   saved_in q h o e =
